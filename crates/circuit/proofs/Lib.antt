@@ -1,0 +1,4 @@
+pub mod GateLaws
+pub mod RunLaws
+pub mod RuleLaws
+pub mod AnswerLaws

@@ -1,0 +1,137 @@
+-- Laws of the rules of a circuit: which test breaks which rule, and what a circuit that breaks none is.
+use Prim.Native.Nat.{ℕ, _+_, _-_, _*_, _/_, _%_, _^_, _<_, _≤_}
+use mathlib.Core.Path.{_≡_, refl, ap, sym, _∙_}
+use mathlib.Core.Bool.{Bool, true, false, not, _||_}
+use mathlib.Core.List.{List, [], _∷_, _++_}
+use native.Mathlib.Omega.{arith}
+use lib.ListN.{length}
+use lib.Dec.{eqb, ltb, leb}
+use borrow.Author.Tests.{ltb-false, leb-false, eqb-false, eqb-true, not-false, lt-ltb, le-ltb, le-leb, lt-leb, eq-eqb, ne-eqb}
+use Rattle.basics.specs.Choice.{pick}
+use Rattle.basics.specs.Lists.{All}
+use Rattle.basics.proofs.Tests.{or-neither, or-false, or-left, or-right}
+use Rattle.basics.proofs.All.{all-map, all-at}
+use Rattle.words.specs.Word.{bit}
+use Rattle.words.proofs.Bits.{bit-le}
+use Rattle.refusals.specs.Tables.{firstOf}
+use Rattle.refusals.specs.Checks.{fine}
+use Rattle.refusals.proofs.Tables.{fine-row, fine-parts}
+use Rattle.refusals.proofs.Places.{bad-le, none-bad, none-left}
+use Rattle.circuit.specs.Gates.{gatesOf, noGate, gateAt}
+use Rattle.circuit.specs.Rules.{badGate, firstBadGate, circuitRows, vectorRows, levelRows, runRows}
+use Rattle.circuit.specs.Sound.{GateOk, AllOk, Sound}
+use Rattle.circuit.specs.declared.Gate.{Gate}
+use Rattle.circuit.proofs.GateLaws.{gates-count}
+
+-- ---- a bad gate: one law for each of its four faults, and one for none
+
+module _ (n : ℕ) (g : Gate) where
+  pub bad-controls : 2 ^ n ≤ g .controls → badGate n g ≡ true
+  unfolding badGate
+  bad-controls h = or-left _ (le-leb (2 ^ n) (g .controls) h)
+
+  pub bad-spare : (g .spare ≡ 0 → ⊥) → badGate n g ≡ true
+  unfolding badGate
+  bad-spare h = or-right (leb (2 ^ n) (g .controls)) (or-left _ (ap not (ne-eqb (g .spare) 0 h)))
+
+  pub bad-target : n ≤ g .target → badGate n g ≡ true
+  unfolding badGate
+  bad-target h = or-right (leb (2 ^ n) (g .controls)) (or-right (not (eqb (g .spare) 0)) (or-left _ (le-leb n (g .target) h)))
+
+  -- past the other three, the target's own bit decides
+  pub bad-last : g .controls < 2 ^ n → g .spare ≡ 0 → g .target < n → eqb (bit (g .controls) (g .target)) 1 ≡ badGate n g
+  unfolding badGate
+  bad-last c s t = rw (lt-leb (2 ^ n) (g .controls) c, eq-eqb (g .spare) 0 s, lt-leb n (g .target) t)
+
+  -- a gate with no fault
+  pub good-gate : badGate n g ≡ false → GateOk n g
+  unfolding badGate
+  good-gate e =
+      let w = or-neither (leb (2 ^ n) (g .controls)) _ e in
+      let v = or-neither (not (eqb (g .spare) 0)) _ (w .1) in
+      let u = or-neither (leb n (g .target)) (eqb (bit (g .controls) (g .target)) 1) (v .1) in
+      let one = eqb-false (bit (g .controls) (g .target)) 1 (u .1) in
+      record {
+        controls-in = leb-false (2 ^ n) (g .controls) (w .0);
+        target-in = leb-false n (g .target) (u .0);
+        apart = omega (arith, bit-le (g .controls) (g .target));
+      }
+
+-- ---- the rules of a circuit
+
+pub lines-none : (n : ℕ) → n ≡ 0 → ltb n 1 || ltb 32 n ≡ true
+lines-none n e = or-left _ (lt-ltb n 1 (omega arith))
+
+pub lines-many : (n : ℕ) → 32 < n → ltb n 1 || ltb 32 n ≡ true
+lines-many n h = or-right (ltb n 1) (lt-ltb 32 n h)
+
+pub lines-right : (n : ℕ) → (n ≡ 0 → ⊥) → n ≤ 32 → ltb n 1 || ltb 32 n ≡ false
+lines-right n e h = or-false (le-ltb n 1 (omega arith)) (le-ltb 32 n h)
+
+pub gates-many : (words : List ℕ) → 1024 < length words / 3 → ltb 1024 (length (gatesOf words)) ≡ true
+gates-many words h = lt-ltb 1024 (length (gatesOf words)) (omega (arith, gates-count words))
+
+pub gates-few : (words : List ℕ) → length words / 3 ≤ 1024 → ltb 1024 (length (gatesOf words)) ≡ false
+gates-few words h = le-ltb 1024 (length (gatesOf words)) (omega (arith, gates-count words))
+
+-- the number of a bad gate is a gate's, or the next
+pub first-bad-le : (n : ℕ) (words : List ℕ) → firstBadGate n words ≤ 1 + length words / 3
+unfolding firstBadGate
+first-bad-le n words = omega (arith, gates-count words, bad-le (badGate n) (not (eqb (length words % 3) 0)) (gatesOf words) 1)
+
+-- a circuit that breaks no rule
+sound-gates : (n : ℕ) (words : List ℕ) → firstBadGate n words ≡ 0 → AllOk n (gatesOf words)
+unfolding firstBadGate
+sound-gates n words e = all-map (good-gate n) (gatesOf words) (none-bad (badGate n) (not (eqb (length words % 3) 0)) (gatesOf words) 0 e)
+
+sound-whole : (n : ℕ) (words : List ℕ) → firstBadGate n words ≡ 0 → length words ≡ 3 * length (gatesOf words)
+unfolding firstBadGate
+sound-whole n words e =
+    let z = eqb-true (length words % 3) 0 (not-false (eqb (length words % 3) 0) (none-left (badGate n) (not (eqb (length words % 3) 0)) (gatesOf words) 0 e)) in
+    omega (arith, gates-count words)
+
+pub sound : (n : ℕ) (words : List ℕ) → fine ≡ firstOf (circuitRows n words) fine → Sound n words
+unfolding circuitRows
+sound n words e0 =
+    let e1 = fine-row (ltb n 1 || ltb 32 n) 3 0 _ e0 in
+    let lines = or-neither (ltb n 1) (ltb 32 n) (e1 .0) in
+    let e2 = fine-row (ltb 1024 (length (gatesOf words))) 5 0 _ (e1 .1) in
+    let e3 = fine-row (not (eqb (firstBadGate n words) 0)) 7 (firstBadGate n words) _ (e2 .1) in
+    let bad = eqb-true (firstBadGate n words) 0 (not-false (eqb (firstBadGate n words) 0) (e3 .0)) in
+    record {
+      some-lines = ltb-false n 1 (lines .0);
+      lines-fit = ltb-false 32 n (lines .1);
+      gates-fit = ltb-false 1024 (length (gatesOf words)) (e2 .0);
+      whole = sound-whole n words bad;
+      gates-ok = sound-gates n words bad;
+    }
+
+-- gate g, from 1, of a sound circuit
+pub gate-ok : (n : ℕ) (words : List ℕ) (g : ℕ) → Sound n words → 0 < g → g ≤ length (gatesOf words) → GateOk n (gateAt (gatesOf words) g)
+unfolding gateAt
+gate-ok n words g s p h = all-at (GateOk n) (gatesOf words) (g - 1) noGate (omega arith) (s .gates-ok)
+
+pub target-fits : (n : ℕ) (words : List ℕ) (g : ℕ) → Sound n words → 0 < g → g ≤ length (gatesOf words) → gateAt (gatesOf words) g .target < 32
+target-fits n words g s p h = let ok = gate-ok n words g s p h in omega arith
+
+-- ---- a vector with its circuit, and a run
+
+pub record VectorOk (n : ℕ) (words : List ℕ) (x : ℕ) : Type 0 where
+  pub circuit : Sound n words
+  pub vector : x < 2 ^ n
+
+pub vector-ok : (n : ℕ) (words : List ℕ) (x : ℕ) → fine ≡ firstOf (circuitRows n words ++ vectorRows n x) fine → VectorOk n words x
+unfolding vectorRows
+vector-ok n words x e =
+    let w = fine-parts (circuitRows n words) (vectorRows n x) e in
+    record { circuit = sound n words (w .0); vector = leb-false (2 ^ n) x (fine-row (leb (2 ^ n) x) 8 1 fine (w .1) .0) }
+
+pub record RunOk (n : ℕ) (words : List ℕ) (i s : ℕ) : Type 0 where
+  pub state : VectorOk n words s
+  pub level : i ≤ length (gatesOf words)
+
+pub run-ok : (n : ℕ) (words : List ℕ) (i s : ℕ) → fine ≡ firstOf (runRows n words i s) fine → RunOk n words i s
+unfolding runRows levelRows
+run-ok n words i s e =
+    let w = fine-parts (circuitRows n words ++ vectorRows n s) (levelRows words i) e in
+    record { state = vector-ok n words s (w .0); level = ltb-false _ i (fine-row (ltb (length (gatesOf words)) i) 12 0 fine (w .1) .0) }

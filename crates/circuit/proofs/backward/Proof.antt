@@ -1,0 +1,53 @@
+-- `circuit::backward` meets its contract: the check is the whole table, and what passes it is a sound circuit and one of its levels. Assumes nothing.
+use mathlib.Core.Path.{_≡_, ap, sym, _∙_}
+use native.Mathlib.Omega.{arith}
+use Rattle.refusals.specs.Checks.{found}
+use Rattle.refusals.proofs.Tables.{refused-all, fine-all}
+use Rattle.circuit.specs.Rules.{runRows}
+use Rattle.circuit.proofs.RuleLaws.{run-ok}
+use borrow.Author.Needs.{needs}
+use Rattle.circuit.proofs.backward.Statement.{statement}
+use Rattle.circuit.proofs.backward.Tie as tie
+
+check-run-requires : tie.Need-check-run-requires
+check-run-requires c κs = search needs
+
+enum-known-refusal : tie.Need-enum-known-refusal
+enum-known-refusal c = search needs
+
+enum-told : tie.Need-enum-told
+enum-told c = search needs
+
+level-requires : tie.Need-level-requires
+level-requires c κs = search needs
+
+run-backward-requires : tie.Need-run-backward-requires
+run-backward-requires c κs =
+    let e = c .before in
+    let a = e .before .before .before .before .args in
+    let ok = run-ok (a .lines) (a .gates .now) (a .level) (a .state) (ap found (sym (e .enum-told .given .1)) ∙ e .before .before .check-run .ensures) in
+    (ok .state .circuit, omega arith)
+
+returns : tie.Need-returns
+returns c =
+    let a = c .before .before .before .before .before .args in
+    refused-all (runRows (a .lines) (a .gates .now) (a .level) (a .state)) _ _ _ (ap found (sym (c .before .refusal .given .1)) ∙ c .before .before .before .check-run .ensures)
+
+returns-2 : tie.Need-returns-2
+returns-2 c =
+    let e = c .before .before in
+    let a = e .before .before .before .before .args in
+    rw (c .run-backward .ensures, c .before .level .ensures)
+    (fine-all (runRows (a .lines) (a .gates .now) (a .level) (a .state)) _ (ap found (sym (e .enum-told .given .1)) ∙ e .before .before .check-run .ensures))
+
+pub backward-spec : {M : Type 1} → statement M
+backward-spec =
+    tie.close
+    (tie.spec
+    check-run-requires
+    enum-known-refusal
+    enum-told
+    level-requires
+    run-backward-requires
+    returns
+    returns-2)

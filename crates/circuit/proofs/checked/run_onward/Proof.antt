@@ -1,0 +1,90 @@
+-- `circuit::checked::run_onward` meets its contract: each turn takes the state one level up, by the gate that reads the level reached. Assumes nothing.
+use Prim.Native.Nat.{_+_, _-_, _≤_}
+use mathlib.Core.Path.{_≡_, ap, sym, _∙_}
+use native.Mathlib.Omega.{arith}
+use lib.ListN.{length}
+use borrow.Author.Needs.{needs}
+use Rattle.circuit.specs.Gates.{gatesOf}
+use Rattle.circuit.specs.Runs.{onward, step}
+use Rattle.circuit.proofs.GateLaws.{gate-entry}
+use Rattle.circuit.proofs.RuleLaws.{target-fits}
+use Rattle.circuit.proofs.RunLaws.{onward-none, onward-more}
+use Rattle.circuit.proofs.checked.run_onward.Statement.{statement}
+use Rattle.circuit.proofs.checked.run_onward.Tie as tie
+
+abbrev Inv-loop : tie.InvT-loop
+Inv-loop lines gates state end now₀ i₀ now i = (i₀ ≤ i) × ((i ≤ end) × ((end ≤ length (gatesOf gates)) × (now ≡ onward (gatesOf gates) i₀ i state)))
+
+abbrev μ-loop : tie.MeasureT-loop
+μ-loop lines gates state end now₀ i₀ now i = end - i
+
+gates-before-requires : tie.Need-gates-before-requires Inv-loop μ-loop
+gates-before-requires c κs = search needs
+
+gates-before-requires-2 : tie.Need-gates-before-requires-2 Inv-loop μ-loop
+gates-before-requires-2 c κs = search needs
+
+loop-holds : tie.Need-loop-holds Inv-loop μ-loop
+loop-holds c = (omega arith, (omega arith, (omega arith, sym (onward-none _ _ _))))
+
+level-requires : tie.Need-level-requires Inv-loop μ-loop
+level-requires c κs = search needs
+
+gate-after-requires : tie.Need-gate-after-requires Inv-loop μ-loop
+gate-after-requires c κs = omega arith
+
+gate-at-requires : tie.Need-gate-at-requires Inv-loop μ-loop
+gate-at-requires c κs = omega arith
+
+step-requires : tie.Need-step-requires Inv-loop μ-loop
+step-requires c κs =
+    let a = c .before .before .before .before .before .before .before .before .args in
+    rw (c .gate-at .ensures) (target-fits (a .lines) (a .gates .now) _ (search needs) (omega arith) (omega arith))
+
+add-i : tie.Need-add-i Inv-loop μ-loop
+add-i c = omega arith
+
+loop-less : tie.Need-loop-less Inv-loop μ-loop
+loop-less c = omega arith
+
+loop-again : tie.Need-loop-again Inv-loop μ-loop
+loop-again c =
+    let l = c .before .before .before .before .before in
+    let a = l .before .before .before .before .args in
+    let gate = c .before .gate-at .ensures ∙ gate-entry (gatesOf (a .gates .now)) (l .loop .i) (c .before .before .gate-after .result .0) (omega arith) in (
+      omega arith,
+      (
+        omega arith,
+        (
+          omega arith,
+          c .step .ensures ∙ rw (gate, l .loop .inv .1 .1 .1)
+              (sym (onward-more (gatesOf (a .gates .now)) (l .before .gates-before2 .result) (l .loop .i) (a .state) (omega arith) (omega arith))),
+        ),
+      ),
+    )
+
+returns : tie.Need-returns Inv-loop μ-loop
+returns c =
+    let l = c .before in
+    let a = l .before .before .before .before .args in
+    let first : l .before .gates-before2 .result ≡ a .from .0 = l .before .gates-before2 .ensures in
+    let last : l .loop .i ≡ a .to .0 = omega arith in
+    l .loop .inv .1 .1 .1 ∙ rw (first, last)
+
+pub run-onward-spec : {M : Type 1} → statement M
+run-onward-spec =
+    tie.close
+    (tie.spec
+    Inv-loop
+    μ-loop
+    gates-before-requires
+    gates-before-requires-2
+    loop-holds
+    level-requires
+    gate-after-requires
+    gate-at-requires
+    step-requires
+    add-i
+    loop-less
+    loop-again
+    returns)

@@ -1,0 +1,53 @@
+-- `circuit::rules::check_run` meets its contract: the rules of the circuit and the state come first, then rule 12. Assumes nothing.
+use mathlib.Core.Path.{_≡_, ap, sym, _∙_}
+use mathlib.Core.List.{_++_}
+use native.Mathlib.Omega.{arith}
+use lib.ListN.{length}
+use borrow.Author.Tests.{le-ltb, lt-ltb}
+use Rattle.refusals.specs.Checks.{fine, found}
+use Rattle.refusals.proofs.Tables.{refused-on, fine-on}
+use Rattle.circuit.specs.Gates.{gatesOf}
+use Rattle.circuit.specs.Rules.{circuitRows, vectorRows, levelRows, runRows}
+use Rattle.circuit.proofs.GateLaws.{gates-count}
+use borrow.Author.Needs.{needs}
+use Rattle.circuit.proofs.rules.check_run.Statement.{statement}
+use Rattle.circuit.proofs.rules.check_run.Tie as tie
+
+check-vector-requires : tie.Need-check-vector-requires
+check-vector-requires c κs = search needs
+
+enum-known-refusal : tie.Need-enum-known-refusal
+enum-known-refusal c = search needs
+
+returns : tie.Need-returns
+unfolding runRows
+returns c =
+    let a = c .before .before .before .before .before .args in
+    refused-on (circuitRows (a .lines) (a .gates .now) ++ vectorRows (a .lines) (a .state)) (levelRows (a .gates .now) (a .level)) fine _ _
+    (ap found (sym (c .before .refusal .given .1)) ∙ c .before .before .before .check-vector .ensures)
+
+enum-told : tie.Need-enum-told
+enum-told c = search needs
+
+returns-2 : tie.Need-returns-2
+unfolding runRows levelRows
+returns-2 c =
+    let e = c .before in
+    let a = e .before .before .before .before .args in
+    let passed = ap found (sym (e .enum-told .given .1)) ∙ e .before .before .check-vector .ensures in
+    sym (fine-on (circuitRows (a .lines) (a .gates .now) ++ vectorRows (a .lines) (a .state)) (levelRows (a .gates .now) (a .level)) fine passed
+    ∙ rw (lt-ltb (length (gatesOf (a .gates .now))) (a .level) (omega (arith, gates-count (a .gates .now)))))
+
+returns-3 : tie.Need-returns-3
+unfolding runRows levelRows
+returns-3 c =
+    let e = c .before in
+    let a = e .before .before .before .before .args in
+    let passed = ap found (sym (e .enum-told .given .1)) ∙ e .before .before .check-vector .ensures in
+    sym (fine-on (circuitRows (a .lines) (a .gates .now) ++ vectorRows (a .lines) (a .state)) (levelRows (a .gates .now) (a .level)) fine passed
+    ∙ rw (le-ltb (length (gatesOf (a .gates .now))) (a .level) (omega (arith, gates-count (a .gates .now)))))
+
+pub check-run-spec : {M : Type 1} → statement M
+check-run-spec =
+    tie.close
+    (tie.spec check-vector-requires enum-known-refusal returns enum-told returns-2 returns-3)

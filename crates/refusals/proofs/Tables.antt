@@ -1,0 +1,53 @@
+-- Laws of tables of rules, for every table: a check of some of its rows decides the whole.
+use Prim.Native.Nat.{ℕ}
+use mathlib.Core.Path.{_≡_, refl, ap, sym, _∙_}
+use mathlib.Core.Bool.{Bool, true, false}
+use mathlib.Core.List.{List, [], _∷_, _++_}
+use native.Mathlib.Omega.{arith}
+use Rattle.basics.specs.Choice.{pick}
+use Rattle.refusals.specs.Tables.{Row, Told, firstOf}
+use Rattle.refusals.specs.Tables.Row.{refuse_at_when_}
+use Rattle.refusals.specs.Tables.Told.{answered, refused}
+use Rattle.refusals.specs.Checks.{fine}
+use Rattle.refusals.specs.declared.Refusal.{Refusal}
+
+clash : {k p : ℕ} → refused k p ≡ fine → ⊥
+clash e = let z : _≡_ {A = ℕ} 0 1 = cc in omega arith
+
+-- what some rows refuse, every table that begins with them refuses, whatever the answer would be
+pub refused-on : (rows more : List Row) (answer : Told) (k p : ℕ) → refused k p ≡ firstOf rows fine → refused k p ≡ firstOf (rows ++ more) answer
+refused-on [] more answer k p e = absurd (clash e)
+refused-on (refuse n at q when true ∷ rows) more answer k p e = e
+refused-on (refuse n at q when false ∷ rows) more answer k p e = refused-on rows more answer k p e
+
+-- past rows of which none is broken the rest decides
+pub fine-on : (rows more : List Row) (answer : Told) → fine ≡ firstOf rows fine → firstOf (rows ++ more) answer ≡ firstOf more answer
+fine-on [] more answer e = refl
+fine-on (refuse n at q when true ∷ rows) more answer e = absurd (clash (sym e))
+fine-on (refuse n at q when false ∷ rows) more answer e = fine-on rows more answer e
+
+-- the same of a whole table
+pub refused-all : (rows : List Row) (answer : Told) (k p : ℕ) → refused k p ≡ firstOf rows fine → refused k p ≡ firstOf rows answer
+refused-all [] answer k p e = absurd (clash e)
+refused-all (refuse n at q when true ∷ rows) answer k p e = e
+refused-all (refuse n at q when false ∷ rows) answer k p e = refused-all rows answer k p e
+
+pub fine-all : (rows : List Row) (answer : Told) → fine ≡ firstOf rows fine → answer ≡ firstOf rows answer
+fine-all [] answer e = refl
+fine-all (refuse n at q when true ∷ rows) answer e = absurd (clash (sym e))
+fine-all (refuse n at q when false ∷ rows) answer e = fine-all rows answer e
+
+-- a table of which no rule is broken has no broken rule in its parts
+pub fine-parts : (rows more : List Row) → fine ≡ firstOf (rows ++ more) fine → (fine ≡ firstOf rows fine) × (fine ≡ firstOf more fine)
+fine-parts [] more e = (refl, e)
+fine-parts (refuse n at q when true ∷ rows) more e = absurd (clash (sym e))
+fine-parts (refuse n at q when false ∷ rows) more e = fine-parts rows more e
+
+-- the first rule of such a table, and the rest
+pub fine-row : (broken : Bool) (k p : ℕ) (rest : Told) → fine ≡ pick broken (refused k p) rest → (broken ≡ false) × (fine ≡ rest)
+fine-row true k p rest e = absurd (clash (sym e))
+fine-row false k p rest e = (refl, e)
+
+-- two refusals that tell the same are the same
+pub refusal-one : (p q : Refusal) → p .number ≡ q .number → p .place ≡ q .place → p ≡ q
+refusal-one p q n m = λ i. record { number = n i; place = m i }

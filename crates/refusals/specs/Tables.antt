@@ -1,0 +1,20 @@
+-- Tables of rules. A call's rules stand in a table in the order in which they are checked, and the first that is broken is told.
+use Prim.Native.Nat.{ℕ}
+use mathlib.Core.Bool.{Bool}
+use mathlib.Core.List.{List, [], _∷_}
+use Rattle.basics.specs.Choice.{pick}
+
+infix 68 refuse_at_when_
+-- one rule: the refusal's number, its place, and when it is given
+pub data Row : Type 0 where
+  refuse_at_when_ : ℕ → ℕ → Bool → Row
+
+-- what a call tells: the values of its answer, or a refusal's number and place
+pub data Told : Type 0 where
+  answered : List ℕ → Told
+  refused : ℕ → ℕ → Told
+
+-- the first rule that is broken, and the answer where none is
+abbrev pub firstOf : List Row → Told → Told
+firstOf [] answer = answer
+firstOf (refuse number at place when broken ∷ rows) answer = pick broken (refused number place) (firstOf rows answer)
