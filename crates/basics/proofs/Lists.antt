@@ -4,17 +4,14 @@ use mathlib.Core.Path.{_≡_, refl, sym, ap, _∙_, subst, fun-ext}
 use mathlib.Core.Bool.{Bool, true, false, not, _&&_, _||_, false≢true}
 use mathlib.Core.List.{List, [], _∷_, List·Memᴰ, List·Memᴰ·head, List·Memᴰ·tail, nil≢cons}
 use native.Mathlib.Nat.{le-refl, zero-mul}
+use native.Mathlib.Numerals.{add-one}
 use native.Mathlib.Omega.{arith}
-use lib.ListN.{length, length-append}
-use Rattle.basics.specs.Choice.{pick}
+use lib.ListN.{length, getD, drop, length-append, drop-of-length-le}
+use lib.Seq.{drop-cons}
+use Rattle.basics.specs.Choice.{pick, count}
 use Rattle.basics.specs.Lists.{upFrom, keep, each, some, All}
 use Rattle.basics.proofs.Tests.{pick-false, by-test, by-equal, or-right}
 use Rattle.basics.proofs.All.{all-append, all-front, all-back}
-
--- 1 for a test that passes
-abbrev pub count : Bool → ℕ
-count true = 1
-count false = 0
 
 count-not : (b : Bool) → count b + count (not b) ≡ 1
 count-not true = refl
@@ -90,6 +87,19 @@ module _ {ℓ} {A : Type ℓ} where
   unfolding some
   entry-some p (List·Memᴰ·head {x = y} {xs = ys} q) e = ap (λ b. b || some p ys) (ap p (sym q) ∙ e)
   entry-some p (List·Memᴰ·tail {x = y} {xs = ys} m) e = or-right (p y) (entry-some p m e)
+
+  -- a search from place i on: an entry that passes, one that does not, and the end
+  pub some-found : (p : A → Bool) (ys : List A) (i : ℕ) (d : A) → i < length ys → p (getD ys i d) ≡ true → some p (drop i ys) ≡ true
+  unfolding some
+  some-found p ys i d h e = rw (drop-cons ys i d h, e)
+
+  pub some-passed : (p : A → Bool) (ys : List A) (i : ℕ) (d : A) → i < length ys → p (getD ys i d) ≡ false → some p (drop i ys) ≡ some p (drop (i + 1) ys)
+  unfolding some
+  some-passed p ys i d h e = rw (add-one i, drop-cons ys i d h, e)
+
+  pub some-end : (p : A → Bool) (ys : List A) (i : ℕ) → length ys ≤ i → some p (drop i ys) ≡ false
+  unfolding some
+  some-end p ys i h = rw (drop-of-length-le ys h)
 
   -- an entry of a list all of whose entries have a property
   pub all-entry : (P : A → Type 0) {a : A} {ys : List A} → List·Memᴰ a ys → All P ys → P a

@@ -2,7 +2,7 @@
 use mathlib.Core.Path.{_≡_, ap}
 use Prim.Native.Nat.{ℕ}
 use native.Mathlib.Omega.{arith}
-use Rattle.refusals.proofs.Tables.{refusal-one}
+use Rattle.refusals.proofs.Tables.{told-refusal}
 use Rattle.circuit.specs.Answers.{told}
 use Rattle.circuit.specs.declared.Ran.{Ran}
 use Rattle.circuit.specs.declared.Ran.the-variants.{State, Refused}
@@ -11,7 +11,4 @@ pub told-one : (r s : Ran) → told r ≡ told s → r ≡ s
 told-one (State a) (State b) e = cc
 told-one (State a) (Refused q) e = let z : _≡_ {A = ℕ} 0 1 = cc in absurd (omega arith)
 told-one (Refused p) (State b) e = let z : _≡_ {A = ℕ} 0 1 = cc in absurd (omega arith)
-told-one (Refused p) (Refused q) e =
-    let n : p .number ≡ q .number = cc in
-    let m : p .place ≡ q .place = cc in
-    ap Refused (refusal-one p q n m)
+told-one (Refused p) (Refused q) e = ap Refused (told-refusal p q e)

@@ -1,4 +1,5 @@
 pub mod GateLaws
+pub mod ControlLaws
 pub mod RunLaws
 pub mod RuleLaws
 pub mod AnswerLaws

@@ -11,13 +11,12 @@ use Rattle.basics.specs.Choice.{pick}
 use Rattle.basics.specs.Lists.{All}
 use Rattle.basics.proofs.Tests.{or-neither, or-false, or-left, or-right}
 use Rattle.basics.proofs.All.{all-map, all-at}
-use Rattle.words.specs.Word.{bit}
-use Rattle.words.proofs.Bits.{bit-le}
 use Rattle.refusals.specs.Tables.{firstOf}
 use Rattle.refusals.specs.Checks.{fine}
 use Rattle.refusals.proofs.Tables.{fine-row, fine-parts}
 use Rattle.refusals.proofs.Places.{bad-le, none-bad, none-left}
 use Rattle.circuit.specs.Gates.{gatesOf, noGate, gateAt}
+use Rattle.circuit.specs.Controls.{isControl}
 use Rattle.circuit.specs.Rules.{badGate, firstBadGate, circuitRows, vectorRows, levelRows, runRows}
 use Rattle.circuit.specs.Sound.{GateOk, AllOk, Sound}
 use Rattle.circuit.specs.declared.Gate.{Gate}
@@ -38,8 +37,8 @@ module _ (n : ℕ) (g : Gate) where
   unfolding badGate
   bad-target h = or-right (leb (2 ^ n) (g .controls)) (or-right (not (eqb (g .spare) 0)) (or-left _ (le-leb n (g .target) h)))
 
-  -- past the other three, the target's own bit decides
-  pub bad-last : g .controls < 2 ^ n → g .spare ≡ 0 → g .target < n → eqb (bit (g .controls) (g .target)) 1 ≡ badGate n g
+  -- past the other three, the target decides
+  pub bad-last : g .controls < 2 ^ n → g .spare ≡ 0 → g .target < n → isControl g (g .target) ≡ badGate n g
   unfolding badGate
   bad-last c s t = rw (lt-leb (2 ^ n) (g .controls) c, eq-eqb (g .spare) 0 s, lt-leb n (g .target) t)
 
@@ -49,12 +48,11 @@ module _ (n : ℕ) (g : Gate) where
   good-gate e =
       let w = or-neither (leb (2 ^ n) (g .controls)) _ e in
       let v = or-neither (not (eqb (g .spare) 0)) _ (w .1) in
-      let u = or-neither (leb n (g .target)) (eqb (bit (g .controls) (g .target)) 1) (v .1) in
-      let one = eqb-false (bit (g .controls) (g .target)) 1 (u .1) in
+      let u = or-neither (leb n (g .target)) (isControl g (g .target)) (v .1) in
       record {
         controls-in = leb-false (2 ^ n) (g .controls) (w .0);
         target-in = leb-false n (g .target) (u .0);
-        apart = omega (arith, bit-le (g .controls) (g .target));
+        apart = u .1;
       }
 
 -- ---- the rules of a circuit

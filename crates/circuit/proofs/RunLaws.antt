@@ -14,13 +14,14 @@ use Rattle.words.proofs.Lines.{flip-flip, flip-lt}
 use Rattle.words.proofs.Masks.{all-on-flip}
 use Rattle.circuit.specs.Gates.{noGate, gateAt}
 use Rattle.circuit.specs.Runs.{fires, step, run, forward, onward, backward}
+use Rattle.circuit.proofs.ControlLaws.{no-control}
 use Rattle.circuit.specs.Sound.{GateOk, AllOk}
 use Rattle.circuit.specs.declared.Gate.{Gate}
 
 -- whether a gate fires does not turn on its target
 pub fires-flip : (n : ℕ) (g : Gate) → GateOk n g → (s : ℕ) → fires g (flip s (g .target)) ≡ fires g s
 unfolding fires
-fires-flip n g ok s = all-on-flip (g .controls) s (g .target) (ok .apart)
+fires-flip n g ok s = all-on-flip (g .controls) s (g .target) (no-control g (g .target) (ok .apart))
 
 pub step-step : (n : ℕ) (g : Gate) → GateOk n g → (s : ℕ) → step g (step g s) ≡ s
 unfolding step

@@ -1,4 +1,5 @@
 pub mod Gates
+pub mod Controls
 pub mod Runs
 pub mod Rules
 pub mod Sound

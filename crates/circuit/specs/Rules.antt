@@ -4,16 +4,16 @@ use mathlib.Core.Bool.{Bool, not, _||_}
 use mathlib.Core.List.{List, [], _∷_, _++_}
 use lib.ListN.{length}
 use lib.Dec.{eqb, ltb, leb}
-use Rattle.words.specs.Word.{bit}
 use Rattle.refusals.specs.Tables.{Row}
 use Rattle.refusals.specs.Tables.Row.{refuse_at_when_}
 use Rattle.refusals.specs.Places.{firstBad}
 use Rattle.circuit.specs.Gates.{gatesOf}
+use Rattle.circuit.specs.Controls.{isControl}
 use Rattle.circuit.specs.declared.Gate.{Gate}
 
 -- a mask bit at n or above, a spare that is not 0, a target at n or above, or the target among the controls
 unfoldable pub badGate : ℕ → Gate → Bool
-badGate n g = leb (2 ^ n) (g .controls) || (not (eqb (g .spare) 0) || (leb n (g .target) || eqb (bit (g .controls) (g .target)) 1))
+badGate n g = leb (2 ^ n) (g .controls) || (not (eqb (g .spare) 0) || (leb n (g .target) || isControl g (g .target)))
 
 -- the number of the first bad gate; words left over are one more bad gate
 unfoldable pub firstBadGate : ℕ → List ℕ → ℕ

@@ -4,15 +4,16 @@ use mathlib.Core.Path.{_≡_}
 use mathlib.Core.List.{List}
 use lib.ListN.{length}
 use Rattle.basics.specs.Lists.{All}
-use Rattle.words.specs.Word.{bit}
+use mathlib.Core.Bool.{false}
 use Rattle.circuit.specs.Gates.{gatesOf}
+use Rattle.circuit.specs.Controls.{isControl}
 use Rattle.circuit.specs.declared.Gate.{Gate}
 
 -- a gate on n lines, whose target is none of its controls
 pub record GateOk (n : ℕ) (g : Gate) : Type 0 where
   pub controls-in : g .controls < 2 ^ n
   pub target-in : g .target < n
-  pub apart : bit (g .controls) (g .target) ≡ 0
+  pub apart : isControl g (g .target) ≡ false
 
 abbrev pub AllOk : ℕ → List Gate → Type 0
 AllOk n gs = All (GateOk n) gs

@@ -3,12 +3,14 @@ ghost use mathlib.Core.Path.{_≡_};
 ghost use Prim.Native.Nat.{_*_, _<_, _≤_};
 ghost use lib.ListN.{length};
 ghost use Rattle.circuit.specs.Gates.{gatesOf, gateAt};
+ghost use Rattle.circuit.specs.Controls.{isControl, lessControl, moreControl};
 ghost use Rattle.circuit.specs.Runs.{fires, step, forward, onward, backward};
 ghost use Rattle.circuit.specs.Sound.{Sound};
 use crate::Gate;
 use crate::numbers;
 use crate::numbers::GateNumber;
 use crate::numbers::LevelNumber;
+use words;
 
 // The gate of a number: three words of the list.
 pub fn gate_at(gates: &[u32], gate: GateNumber) -> Gate
@@ -29,6 +31,38 @@ pub fn fires(gate: Gate, state: u32) -> bool
 {
     let controls = gate.controls;
     state & controls == controls
+}
+
+// Whether a line is a control of a gate.
+pub fn is_control(gate: Gate, line: u32) -> bool
+    requires { ⌜ line < 32 ⌝ }
+    ensures { λ r. ⌜ r ≡ isControl gate line ⌝ }
+{
+    words::checked::value(gate.controls, line) == 1
+}
+
+// The gate without one of its controls.
+pub fn less_control(gate: Gate, line: u32) -> Gate
+    requires { ⌜ line < 32 ⌝ }
+    ensures { λ r. ⌜ r ≡ lessControl line gate ⌝ }
+{
+    Gate {
+        controls: words::checked::force(gate.controls, line, 0),
+        spare: gate.spare,
+        target: gate.target,
+    }
+}
+
+// The gate with one control more.
+pub fn more_control(gate: Gate, line: u32) -> Gate
+    requires { ⌜ line < 32 ⌝ }
+    ensures { λ r. ⌜ r ≡ moreControl line gate ⌝ }
+{
+    Gate {
+        controls: words::checked::force(gate.controls, line, 1),
+        spare: gate.spare,
+        target: gate.target,
+    }
 }
 
 // What a gate makes of a state: the target bit flipped by a shifted one where the gate fires, and by a shifted zero elsewhere.

@@ -29,7 +29,7 @@ pub fn bad_gate(lines: u32, gate: Gate) -> bool
     if lines <= target {
         return true;
     }
-    words::checked::value(controls, target) == 1
+    checked::is_control(gate, target)
 }
 
 // The number of the first bad gate, and 0 where none is bad; words left over are one more bad gate.

@@ -49,5 +49,8 @@ fine-row true k p rest e = absurd (clash (sym e))
 fine-row false k p rest e = (refl, e)
 
 -- two refusals that tell the same are the same
-pub refusal-one : (p q : Refusal) → p .number ≡ q .number → p .place ≡ q .place → p ≡ q
-refusal-one p q n m = λ i. record { number = n i; place = m i }
+pub told-refusal : (p q : Refusal) → refused (p .number) (p .place) ≡ refused (q .number) (q .place) → p ≡ q
+told-refusal p q e =
+    let n : p .number ≡ q .number = cc in
+    let m : p .place ≡ q .place = cc in
+    λ i. record { number = n i; place = m i }

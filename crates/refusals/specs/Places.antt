@@ -1,5 +1,5 @@
 -- The place of the first bad entry of a list, counted from 1, and 0 where none is bad.
-use Prim.Native.Nat.{ℕ, suc}
+use Prim.Native.Nat.{ℕ, suc, _-_, _^_, min}
 use mathlib.Core.Bool.{Bool}
 use mathlib.Core.List.{List, [], _∷_}
 use Rattle.basics.specs.Choice.{pick}
@@ -11,3 +11,7 @@ firstBadFrom bad leftOver place (a ∷ rest) = pick (bad a) place (firstBadFrom 
 
 abbrev pub firstBad {ℓ} : {A : Type ℓ} → (A → Bool) → Bool → List A → ℕ
 firstBad bad leftOver entries = firstBadFrom bad leftOver 1 entries
+
+-- a place as a word can tell it: a list of 2 ^ 32 entries and more has places that no word holds, and the largest word stands for them
+unfoldable pub toldPlace : ℕ → ℕ
+toldPlace place = min place (2 ^ 32 - 1)

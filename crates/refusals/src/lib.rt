@@ -1,4 +1,11 @@
 // Refusals: a number of the paper's table with its place, and what a check of a table of rules finds.
+ghost use mathlib.Core.Path.{_≡_};
+ghost use mathlib.Core.Bool.{not};
+ghost use mathlib.Core.List.{[], _∷_};
+ghost use Rattle.refusals.specs.Tables.{firstOf};
+ghost use Rattle.refusals.specs.Tables.Row.{refuse_at_when_};
+ghost use Rattle.refusals.specs.Places.{toldPlace};
+ghost use Rattle.refusals.specs.Checks.{fine, found};
 
 // The number of a refusal and the place that is told with it.
 pub struct Refusal {
@@ -10,4 +17,26 @@ pub struct Refusal {
 pub enum Checked {
     Fine,
     Wrong(Refusal),
+}
+
+// One rule: refused unless something holds.
+pub fn unless(holds: bool, number: u32, place: u32) -> Checked
+    ensures { λ r. ⌜ found r ≡ firstOf (refuse number at place when not holds ∷ []) fine ⌝ }
+{
+    if holds {
+        Checked::Fine
+    } else {
+        Checked::Wrong(Refusal { number, place })
+    }
+}
+
+// A place in a list, as a word can tell it: a place that no word holds is told as the largest.
+pub fn told_place(place: usize) -> u32
+    ensures { λ r. ⌜ r ≡ toldPlace place ⌝ }
+{
+    if place < 4294967295 {
+        place as u32
+    } else {
+        4294967295
+    }
 }

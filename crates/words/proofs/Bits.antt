@@ -2,7 +2,7 @@
 use Prim.Native.Nat.{ℕ, zero, suc, _+_, _-_, _*_, _/_, _%_, _^_, _≤_, _<_}
 use mathlib.Core.Path.{_≡_, refl, sym, ap, ap₂, _∙_}
 use mathlib.Core.Logic.{_≢_}
-use native.Mathlib.Nat.{div-one, div-self, zero-div, mod-lt, div-add-mod', zero-lt-suc, lt-of-lt-of-le, le-add-right, le-add-left}
+use native.Mathlib.Nat.{div-one, div-self, div-eq-of-lt, zero-div, mod-lt, div-add-mod', zero-lt-suc, lt-of-lt-of-le, le-add-right, le-add-left}
 use native.Mathlib.Numerals.{one-add}
 use native.Mathlib.Omega.{arith}
 use lib.Arith.{lt-one}
@@ -78,3 +78,8 @@ bit-other-line zero zero d = absurd (d refl)
 bit-other-line zero (suc k) d = bit-half 1 k ∙ bit-of-zero k
 bit-other-line (suc j) zero d = bit-lowest (2 ^ suc j) ∙ pow-even j
 bit-other-line (suc j) (suc k) d = bit-half (2 ^ suc j) k ∙ ap (λ x. bit x k) (pow-half j) ∙ bit-other-line j k (λ e. d (ap suc e))
+
+-- a word below 2 ^ n has no line at n or above
+pub bit-above : (n s j : ℕ) → s < 2 ^ n → n ≤ j → bit s j ≡ 0
+unfolding bit
+bit-above n s j h l = let wide : 2 ^ n ≤ 2 ^ j = pow-mono l in rw (div-eq-of-lt (lt-of-lt-of-le h wide))

@@ -52,3 +52,8 @@ force-same-iff s j v h = (
   λ e. sym (ap (λ x. bit x j) e) ∙ bit-force-same s j v h,
   λ e. rw (eq-eqb (bit s j) v e),
 )
+
+-- a line that has not the value is inverted
+pub force-other : (s j v : ℕ) → bit s j ≢ v → force s j v ≡ flip s j
+unfolding force
+force-other s j v d = rw (ne-eqb (bit s j) v d)

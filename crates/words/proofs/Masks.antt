@@ -1,17 +1,18 @@
 -- Laws of masks: all lines of a mask are 1, and the mask of all lines.
 use Prim.Native.Nat.{ℕ, zero, suc, _-_, _/_, _^_, _<_}
 use mathlib.Core.Path.{_≡_, refl, sym, ap, _∙_}
-use mathlib.Core.Logic.{_↔_}
+use mathlib.Core.Logic.{_↔_, by-cases}
 use mathlib.Core.Bool.{true, _&&_}
+use native.Mathlib.Decide.{decLe}
 use native.Mathlib.Omega.{arith}
 use lib.Pow.{pow-pos, ones-lt}
 use lib.Bits.{bitAnd, and-zero-r}
 use lib.Dec.{eqb}
 use borrow.Author.Tests.{eq-eqb, eqb-true}
 use Rattle.basics.proofs.Tests.{bool-ext, and-true, and-both, by-equal}
-use Rattle.words.specs.Word.{bit, flip, allOn, allOnes}
-use Rattle.words.proofs.Bits.{by-bit, bit-and, bit-lowest, bit-half, word-ext-all}
-use Rattle.words.proofs.Lines.{bit-flip-same, bit-flip-other}
+use Rattle.words.specs.Word.{bit, flip, force, allOn, allOnes}
+use Rattle.words.proofs.Bits.{by-bit, bit-and, bit-lowest, bit-half, bit-above, word-ext-all}
+use Rattle.words.proofs.Lines.{bit-flip-same, bit-flip-other, bit-force-other}
 
 pub all-on-iff : (mask s : ℕ) → (allOn mask s ≡ true) ↔ ((j : ℕ) → bit mask j ≡ 1 → bit s j ≡ 1)
 unfolding allOn
@@ -59,3 +60,15 @@ bit-all-ones n j h = ones-bit n j h
 pub all-ones-lt : (n : ℕ) → allOnes n < 2 ^ n
 unfolding allOnes
 all-ones-lt n = ones-lt n
+
+-- all lines of a mask on n lines are 1 where all n lines are
+pub all-on-ones : (n mask : ℕ) → mask < 2 ^ n → allOn mask (allOnes n) ≡ true
+all-on-ones n mask h = all-on-iff mask (allOnes n) .1 (λ j o. by-cases (decLe n j)
+    (λ above. absurd (omega (arith, bit-above n mask j h above)))
+    (λ below. bit-all-ones n j (omega arith)))
+
+-- and where all but one are, that is none of the mask
+pub all-on-but : (n mask j : ℕ) → mask < 2 ^ n → bit mask j ≡ 0 → allOn mask (force (allOnes n) j 0) ≡ true
+all-on-but n mask j h off = all-on-iff mask (force (allOnes n) j 0) .1 (λ k o. by-equal j k
+    (λ e. absurd (omega (arith, ap (bit mask) e)))
+    (λ d. bit-force-other (allOnes n) j 0 k d ∙ all-on-iff mask (allOnes n) .0 (all-on-ones n mask h) k o))

@@ -1,6 +1,5 @@
 -- `circuit::rules::bad_gate` meets its contract: each test is one of the four ways in which a gate is bad. Assumes nothing.
-use mathlib.Core.Path.{ap, sym, _∙_}
-use lib.Dec.{eqb}
+use mathlib.Core.Path.{sym, _∙_}
 use borrow.Author.Tests.{ltb-true, ltb-false, not-true, not-false}
 use Rattle.circuit.proofs.RuleLaws.{bad-controls, bad-spare, bad-target, bad-last}
 use borrow.Author.Needs.{needs}
@@ -19,15 +18,15 @@ returns-2 c = sym (bad-spare _ _ (c .if2 .taken))
 returns-3 : tie.Need-returns-3
 returns-3 c = sym (bad-target _ _ (c .if3 .taken))
 
-value-requires : tie.Need-value-requires
-value-requires c κs = search needs
+is-control-requires : tie.Need-is-control-requires
+is-control-requires c κs = search needs
 
 returns-4 : tie.Need-returns-4
 returns-4 c =
     let a = c .before .before .before .before .before .args in
     let small = ltb-true _ _ (sym (c .before .before .before .before .below .ensures) ∙ not-false _ (c .before .before .before .if1 .left)) in
-    ap (λ v. eqb v 1) (c .value .ensures) ∙ bad-last (a .lines) (a .gate) small (c .before .before .if2 .left) (c .before .if3 .left)
+    c .is-control .ensures ∙ bad-last (a .lines) (a .gate) small (c .before .before .if2 .left) (c .before .if3 .left)
 
 pub bad-gate-spec : {M : Type 1} → statement M
 bad-gate-spec =
-    tie.close (tie.spec below-requires returns returns-2 returns-3 value-requires returns-4)
+    tie.close (tie.spec below-requires returns returns-2 returns-3 is-control-requires returns-4)

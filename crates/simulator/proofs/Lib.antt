@@ -1,0 +1,9 @@
+pub mod FaultLaws
+pub mod CatchLaws
+pub mod SiteLaws
+pub mod RecordLaws
+pub mod RuleLaws
+pub mod StuckLaws
+pub mod TestLaws
+pub mod ClassLaws
+pub mod AnswerLaws

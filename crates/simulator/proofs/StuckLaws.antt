@@ -1,0 +1,47 @@
+-- Laws of runs with several stuck lines, a turn at a time: an entry of a level, and a level of the run.
+use Prim.Native.Nat.{ℕ, _+_, _≤_, _<_}
+use mathlib.Core.Path.{_≡_, refl}
+use mathlib.Core.List.{List}
+use native.Mathlib.Numerals.{add-one}
+use native.Mathlib.Omega.{arith}
+use lib.ListN.{length, getD, drop, drop-of-length-le}
+use lib.Seq.{drop-cons}
+use lib.Dec.{eqb}
+use Rattle.basics.specs.Choice.{pick}
+use Rattle.basics.proofs.All.{all-at}
+use Rattle.words.specs.Word.{force}
+use Rattle.circuit.specs.Gates.{gatesOf, noGate}
+use Rattle.circuit.specs.Runs.{step}
+use Rattle.circuit.specs.Sound.{Sound}
+use Rattle.circuit.specs.declared.Gate.{Gate}
+use Rattle.simulator.specs.Faults.{forceAt, stuckRun}
+use Rattle.simulator.specs.Rules.{faultsOf, noFault}
+use Rattle.simulator.specs.Entries.{StuckOk, Entries}
+use Rattle.simulator.specs.declared.Fault.{Fault}
+
+-- one entry more, and the last
+pub force-more : (fs : List Fault) (i level s : ℕ) → i < length fs
+    → forceAt (drop i fs) level s
+    ≡ forceAt (drop (i + 1) fs) level (pick (eqb (getD fs i noFault .place) level) (force s (getD fs i noFault .line) (getD fs i noFault .value)) s)
+unfolding forceAt
+force-more fs i level s h = rw (add-one i, drop-cons fs i noFault h)
+
+pub force-end : (fs : List Fault) (i level s : ℕ) → length fs ≤ i → forceAt (drop i fs) level s ≡ s
+unfolding forceAt
+force-end fs i level s h = rw (drop-of-length-le fs h)
+
+-- one level more, and the last
+pub stuck-more : (fs : List Fault) (gs : List Gate) (i s : ℕ) → i < length gs
+    → stuckRun fs i (drop i gs) s ≡ stuckRun fs (i + 1) (drop (i + 1) gs) (step (getD gs i noGate) (forceAt fs i s))
+unfolding stuckRun
+stuck-more fs gs i s h = rw (add-one i, drop-cons gs i noGate h)
+
+pub stuck-end : (fs : List Fault) (gs : List Gate) (i s : ℕ) → length gs ≤ i → stuckRun fs i (drop i gs) s ≡ forceAt fs i s
+unfolding stuckRun
+stuck-end fs gs i s h = rw (drop-of-length-le gs h)
+
+-- the line of an entry is a line of the word
+pub entry-line : (n : ℕ) (words list : List ℕ) (i : ℕ) → Sound n words → Entries n (gatesOf words) list → i < length (faultsOf list) → getD (faultsOf list) i noFault .line < 32
+entry-line n words list i ok entries h =
+    let f = all-at (StuckOk n (length (gatesOf words))) (faultsOf list) i noFault h (entries .entries-ok) in
+    omega arith

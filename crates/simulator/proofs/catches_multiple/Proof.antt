@@ -1,0 +1,50 @@
+-- `simulator::catches_multiple` meets its contract: the check is the whole table, and what passes it are entries of a sound circuit. Assumes nothing.
+use mathlib.Core.Path.{ap, sym, _∙_}
+use Rattle.refusals.specs.Checks.{found}
+use Rattle.refusals.proofs.Tables.{refused-all, fine-all}
+use Rattle.simulator.specs.Rules.{multipleRows}
+use Rattle.simulator.proofs.RuleLaws.{multiple-ok}
+use borrow.Author.Needs.{needs}
+use Rattle.simulator.proofs.catches_multiple.Statement.{statement}
+use Rattle.simulator.proofs.catches_multiple.Tie as tie
+
+check-multiple-requires : tie.Need-check-multiple-requires
+check-multiple-requires c κs = search needs
+
+enum-known-refusal : tie.Need-enum-known-refusal
+enum-known-refusal c = search needs
+
+enum-told : tie.Need-enum-told
+enum-told c = search needs
+
+catches-multiple-requires : tie.Need-catches-multiple-requires
+catches-multiple-requires c κs =
+    let a = c .before .before .before .before .before .args in
+    let ok = multiple-ok (a .lines) (a .gates .now) (a .vector) (a .entries .now) (ap found (sym (c .enum-told .given .1)) ∙ c .before .before .check-multiple .ensures) in
+    (ok .vector .circuit, ok .entries)
+
+yes-or-no-requires : tie.Need-yes-or-no-requires
+yes-or-no-requires c κs = search needs
+
+returns : tie.Need-returns
+returns c =
+    let a = c .before .before .before .before .before .before .args in
+    refused-all (multipleRows (a .lines) (a .gates .now) (a .vector) (a .entries .now)) _ _ _ (ap found (sym (c .before .refusal .given .1)) ∙ c .before .before .before .check-multiple .ensures)
+
+returns-2 : tie.Need-returns-2
+returns-2 c =
+    let a = c .before .before .before .before .before .before .before .args in
+    let passed = ap found (sym (c .before .before .enum-told .given .1)) ∙ c .before .before .before .before .check-multiple .ensures in
+    c .yes-or-no .ensures ∙ rw (c .before .catches-multiple .ensures) (fine-all (multipleRows (a .lines) (a .gates .now) (a .vector) (a .entries .now)) _ passed)
+
+pub catches-multiple-spec : {M : Type 1} → statement M
+catches-multiple-spec =
+    tie.close
+    (tie.spec
+    check-multiple-requires
+    enum-known-refusal
+    enum-told
+    catches-multiple-requires
+    yes-or-no-requires
+    returns
+    returns-2)

@@ -1,0 +1,30 @@
+-- `simulator::checked::catches_missing_gate` meets its contract: the gate is asked at the level that it reads. Assumes nothing.
+use mathlib.Core.Path.{_≡_, ap, sym, _∙_}
+use native.Mathlib.Omega.{arith}
+use Prim.Native.Nat.{_-_}
+use borrow.Author.Needs.{needs}
+use Rattle.simulator.proofs.checked.catches_missing_gate.Statement.{statement}
+use Rattle.simulator.proofs.checked.catches_missing_gate.Tie as tie
+use Rattle.simulator.proofs.checked.catches_missing_gate.Reads as reads
+
+level-read-requires : tie.Need-level-read-requires
+level-read-requires c κs = search needs
+
+run-forward-requires : tie.Need-run-forward-requires
+run-forward-requires c κs = search needs
+
+gate-at-requires : tie.Need-gate-at-requires
+gate-at-requires c κs = search needs
+
+fires-requires : tie.Need-fires-requires
+fires-requires c κs = search needs
+
+returns : tie.Need-returns
+returns c =
+    let read : c .before .before .before .level-read .result .0 ≡ c .before .before .before .before .before .args .gate .0 - 1 = omega arith in
+    cc
+
+pub catches-missing-gate-spec : {M : Type 1} → statement M
+catches-missing-gate-spec =
+    tie.close
+    (tie.spec level-read-requires run-forward-requires gate-at-requires fires-requires returns)

@@ -1,0 +1,49 @@
+-- `simulator::rules::check_multiple` meets its contract: the rules of the circuit and the vector come first, then those of the entries. Assumes nothing.
+use mathlib.Core.Path.{ap, sym, _∙_}
+use mathlib.Core.List.{_++_}
+use Rattle.refusals.specs.Checks.{fine, found}
+use Rattle.refusals.proofs.Tables.{refused-on, fine-on}
+use Rattle.circuit.specs.Rules.{circuitRows, vectorRows}
+use Rattle.circuit.proofs.RuleLaws.{vector-ok}
+use Rattle.simulator.specs.Rules.{entriesRows, multipleRows}
+use borrow.Author.Needs.{needs}
+use Rattle.simulator.proofs.rules.check_multiple.Statement.{statement}
+use Rattle.simulator.proofs.rules.check_multiple.Tie as tie
+
+check-vector-requires : tie.Need-check-vector-requires
+check-vector-requires c κs = search needs
+
+enum-known-refusal : tie.Need-enum-known-refusal
+enum-known-refusal c = search needs
+
+enum-told : tie.Need-enum-told
+enum-told c = search needs
+
+check-entries-requires : tie.Need-check-entries-requires
+check-entries-requires c κs =
+    let a = c .before .before .before .before .before .args in
+    vector-ok (a .lines) (a .gates .now) (a .vector) (ap found (sym (c .enum-told .given .1)) ∙ c .before .before .check-vector .ensures) .circuit
+
+returns : tie.Need-returns
+unfolding multipleRows
+returns c =
+    let a = c .before .before .before .before .before .before .args in
+    refused-on (circuitRows (a .lines) (a .gates .now) ++ vectorRows (a .lines) (a .vector)) (entriesRows (a .lines) (a .gates .now) (a .entries .now)) fine _ _ (ap found (sym (c .before .refusal .given .1)) ∙ c .before .before .before .check-vector .ensures)
+
+returns-2 : tie.Need-returns-2
+unfolding multipleRows
+returns-2 c =
+    let a = c .before .before .before .before .before .before .args in
+    let passed = ap found (sym (c .before .enum-told .given .1)) ∙ c .before .before .before .check-vector .ensures in
+    c .check-entries .ensures ∙ sym (fine-on (circuitRows (a .lines) (a .gates .now) ++ vectorRows (a .lines) (a .vector)) (entriesRows (a .lines) (a .gates .now) (a .entries .now)) fine passed)
+
+pub check-multiple-spec : {M : Type 1} → statement M
+check-multiple-spec =
+    tie.close
+    (tie.spec
+    check-vector-requires
+    enum-known-refusal
+    enum-told
+    check-entries-requires
+    returns
+    returns-2)

@@ -1,0 +1,49 @@
+-- `simulator::rules::check_test` meets its contract: the rules of the circuit come first, then rule 9. Assumes nothing.
+use mathlib.Core.Path.{ap, sym, _∙_}
+use Rattle.refusals.specs.Checks.{fine, found}
+use Rattle.refusals.proofs.Tables.{refused-on, fine-on}
+use Rattle.circuit.specs.Rules.{circuitRows}
+use Rattle.circuit.proofs.RuleLaws.{sound}
+use Rattle.simulator.specs.Rules.{faultRows, testRows}
+use borrow.Author.Needs.{needs}
+use Rattle.simulator.proofs.rules.check_test.Statement.{statement}
+use Rattle.simulator.proofs.rules.check_test.Tie as tie
+
+check-circuit-requires : tie.Need-check-circuit-requires
+check-circuit-requires c κs = search needs
+
+enum-known-refusal : tie.Need-enum-known-refusal
+enum-known-refusal c = search needs
+
+enum-told : tie.Need-enum-told
+enum-told c = search needs
+
+check-fault-requires : tie.Need-check-fault-requires
+check-fault-requires c κs =
+    let a = c .before .before .before .before .args in
+    let ok = sound (a .lines) (a .gates .now) (ap found (sym (c .enum-told .given .1)) ∙ c .before .before .check-circuit .ensures) in
+    ok
+
+returns : tie.Need-returns
+unfolding testRows
+returns c =
+    let a = c .before .before .before .before .before .args in
+    refused-on (circuitRows (a .lines) (a .gates .now)) (faultRows (a .lines) (a .gates .now) (a .fault)) fine _ _ (ap found (sym (c .before .refusal .given .1)) ∙ c .before .before .before .check-circuit .ensures)
+
+returns-2 : tie.Need-returns-2
+unfolding testRows
+returns-2 c =
+    let a = c .before .before .before .before .before .args in
+    let passed = ap found (sym (c .before .enum-told .given .1)) ∙ c .before .before .before .check-circuit .ensures in
+    c .check-fault .ensures ∙ sym (fine-on (circuitRows (a .lines) (a .gates .now)) (faultRows (a .lines) (a .gates .now) (a .fault)) fine passed)
+
+pub check-test-spec : {M : Type 1} → statement M
+check-test-spec =
+    tie.close
+    (tie.spec
+    check-circuit-requires
+    enum-known-refusal
+    enum-told
+    check-fault-requires
+    returns
+    returns-2)

@@ -1,0 +1,40 @@
+-- `simulator::test_for` meets its contract: the check is the whole table, and what passes it is a fault of a sound circuit. Assumes nothing.
+use mathlib.Core.Path.{ap, sym, _∙_}
+use Rattle.refusals.specs.Checks.{found}
+use Rattle.refusals.proofs.Tables.{refused-all, fine-all}
+use Rattle.simulator.specs.Rules.{testRows}
+use Rattle.simulator.proofs.RuleLaws.{test-ok}
+use borrow.Author.Needs.{needs}
+use Rattle.simulator.proofs.test_for.Statement.{statement}
+use Rattle.simulator.proofs.test_for.Tie as tie
+
+check-test-requires : tie.Need-check-test-requires
+check-test-requires c κs = search needs
+
+enum-known-refusal : tie.Need-enum-known-refusal
+enum-known-refusal c = search needs
+
+enum-told : tie.Need-enum-told
+enum-told c = search needs
+
+test-for-requires : tie.Need-test-for-requires
+test-for-requires c κs =
+    let a = c .before .before .before .before .args in
+    let ok = test-ok (a .lines) (a .gates .now) (a .fault) (ap found (sym (c .enum-told .given .1)) ∙ c .before .before .check-test .ensures) in
+    (ok .circuit, ok .fault)
+
+returns : tie.Need-returns
+returns c =
+    let a = c .before .before .before .before .before .args in
+    refused-all (testRows (a .lines) (a .gates .now) (a .fault)) _ _ _ (ap found (sym (c .before .refusal .given .1)) ∙ c .before .before .before .check-test .ensures)
+
+returns-2 : tie.Need-returns-2
+returns-2 c =
+    let a = c .before .before .before .before .before .args in
+    let passed = ap found (sym (c .before .enum-told .given .1)) ∙ c .before .before .before .check-test .ensures in
+    rw (c .test-for .ensures) (fine-all (testRows (a .lines) (a .gates .now) (a .fault)) _ passed)
+
+pub test-for-spec : {M : Type 1} → statement M
+test-for-spec =
+    tie.close
+    (tie.spec check-test-requires enum-known-refusal enum-told test-for-requires returns returns-2)

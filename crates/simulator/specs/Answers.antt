@@ -1,0 +1,19 @@
+-- What the answers tell: the refusal's number and place, or the values.
+use mathlib.Core.List.{[], _∷_}
+use Rattle.refusals.specs.Tables.{Told}
+use Rattle.refusals.specs.Tables.Told.{answered, refused}
+use Rattle.simulator.specs.declared.Caught.{Caught}
+use Rattle.simulator.specs.declared.Caught.the-variants as caught
+use Rattle.simulator.specs.declared.Made.{Made}
+use Rattle.simulator.specs.declared.Made.the-variants as made
+
+-- whether a fault is caught: 1 for yes, 0 for no
+abbrev pub toldCaught : Caught → Told
+toldCaught caught.Yes = answered (1 ∷ [])
+toldCaught caught.No = answered (0 ∷ [])
+toldCaught (caught.Refused r) = refused (r .number) (r .place)
+
+-- a vector that was made
+abbrev pub toldMade : Made → Told
+toldMade (made.Vector v) = answered (v ∷ [])
+toldMade (made.Refused r) = refused (r .number) (r .place)

@@ -1,0 +1,6 @@
+pub mod Faults
+pub mod Sites
+pub mod Rules
+pub mod Entries
+pub mod Tests
+pub mod Answers

@@ -1,0 +1,267 @@
+// Faulty runs and catching, of faults that a sound circuit is known to have.
+ghost use mathlib.Core.Path.{_≡_};
+ghost use mathlib.Core.Bool.{true, not, _&&_};
+ghost use Prim.Native.Nat.{_-_, _<_, _≤_};
+ghost use lib.ListN.{length, drop};
+ghost use lib.Dec.{eqb};
+ghost use Rattle.basics.specs.Choice.{pick};
+ghost use Rattle.words.specs.Word.{bit, force};
+ghost use Rattle.circuit.specs.Gates.{gatesOf, gateAt};
+ghost use Rattle.circuit.specs.Runs.{fires, step, run, forward};
+ghost use Rattle.circuit.specs.Sound.{Sound};
+ghost use Rattle.simulator.specs.Faults.{forceAt, stuckRun, faulty, caught, caughtTogether};
+ghost use Rattle.simulator.specs.Rules.{isFault, faultsOf};
+ghost use Rattle.simulator.specs.Tests.{lineAtZero, testState, testFor};
+ghost use Rattle.simulator.specs.Entries.{Entries};
+use crate::Fault;
+use crate::records;
+use circuit::Gate;
+use circuit::checked::fires;
+use circuit::checked::gate_at;
+use circuit::checked::less_control;
+use circuit::checked::more_control;
+use circuit::checked::run_backward;
+use circuit::checked::run_forward;
+use circuit::checked::run_onward;
+use circuit::checked::step;
+use circuit::numbers;
+use circuit::numbers::GateNumber;
+use circuit::numbers::LevelNumber;
+use words;
+
+// From a level on to the output.
+fn run_rest(lines: u32, gates: &[u32], level: LevelNumber, state: u32) -> u32
+    requires { ⌜ Sound lines (now gates) ⌝ }
+    requires { ⌜ level .0 ≤ length (gatesOf (now gates)) ⌝ }
+    ensures { λ r. ⌜ r ≡ run (drop (level .0) (gatesOf (now (gates .entry)))) state ⌝ }
+{
+    run_onward(lines, gates, level, numbers::level(gates.len() / 3), state)
+}
+
+// The output with a line stuck at a level.
+fn run_stuck_at(lines: u32, gates: &[u32], vector: u32, fault: Fault) -> u32
+    requires { ⌜ Sound lines (now gates) ⌝ }
+    requires { ⌜ (fault .place ≤ length (gatesOf (now gates))) × (fault .line < 32) ⌝ }
+    ensures { λ r. ⌜ r ≡ run (drop (fault .place) (gatesOf (now (gates .entry)))) (force (forward (gatesOf (now (gates .entry))) (fault .place) vector) (fault .line) (fault .value)) ⌝ }
+{
+    let place = fault.place;
+    let level = numbers::level(place as usize);
+    let state = run_forward(lines, gates, level, vector);
+    run_rest(
+        lines,
+        gates,
+        level,
+        words::checked::force(state, fault.line, fault.value),
+    )
+}
+
+// The output with a gate left out.
+fn run_without(lines: u32, gates: &[u32], vector: u32, gate: GateNumber) -> u32
+    requires { ⌜ Sound lines (now gates) ⌝ }
+    requires { ⌜ (0 < gate .0) × (gate .0 ≤ length (gatesOf (now gates))) ⌝ }
+    ensures { λ r. ⌜ r ≡ run (drop (gate .0) (gatesOf (now (gates .entry)))) (forward (gatesOf (now (gates .entry))) (gate .0 - 1) vector) ⌝ }
+{
+    let state = run_forward(lines, gates, numbers::level_read(gate), vector);
+    run_rest(lines, gates, numbers::level_made(gate), state)
+}
+
+// The output with another gate in the place of a gate.
+fn run_changed(lines: u32, gates: &[u32], vector: u32, gate: GateNumber, other: Gate) -> u32
+    requires { ⌜ Sound lines (now gates) ⌝ }
+    requires { ⌜ (0 < gate .0) × ((gate .0 ≤ length (gatesOf (now gates))) × (other .target < 32)) ⌝ }
+    ensures { λ r. ⌜ r ≡ run (drop (gate .0) (gatesOf (now (gates .entry)))) (step other (forward (gatesOf (now (gates .entry))) (gate .0 - 1) vector)) ⌝ }
+{
+    let state = run_forward(lines, gates, numbers::level_read(gate), vector);
+    run_rest(lines, gates, numbers::level_made(gate), step(other, state))
+}
+
+// The output of the circuit with a fault in it.
+pub fn faulty_run(lines: u32, gates: &[u32], vector: u32, fault: Fault) -> u32
+    requires { ⌜ Sound lines (now gates) ⌝ }
+    requires { ⌜ isFault lines (gatesOf (now gates)) fault ≡ true ⌝ }
+    ensures { λ r. ⌜ r ≡ faulty (gatesOf (now (gates .entry))) fault vector ⌝ }
+{
+    let class = fault.class;
+    let place = fault.place;
+    let line = fault.line;
+    if class == 1 {
+        return run_stuck_at(lines, gates, vector, fault);
+    }
+    let number = numbers::gate(place as usize);
+    if class == 2 {
+        return run_without(lines, gates, vector, number);
+    }
+    let gate = gate_at(gates, number);
+    if class == 3 {
+        return run_changed(lines, gates, vector, number, less_control(gate, line));
+    }
+    run_changed(lines, gates, vector, number, more_control(gate, line))
+}
+
+// Whether a line has the other value at a level.
+fn catches_stuck_at(lines: u32, gates: &[u32], vector: u32, fault: Fault) -> bool
+    requires { ⌜ Sound lines (now gates) ⌝ }
+    requires { ⌜ (fault .place ≤ length (gatesOf (now gates))) × (fault .line < 32) ⌝ }
+    ensures { λ r. ⌜ r ≡ not (eqb (bit (forward (gatesOf (now (gates .entry))) (fault .place) vector) (fault .line)) (fault .value)) ⌝ }
+{
+    let place = fault.place;
+    let state = run_forward(lines, gates, numbers::level(place as usize), vector);
+    words::checked::value(state, fault.line) != fault.value
+}
+
+// Whether all controls of a gate are 1 at the level it reads.
+fn catches_missing_gate(lines: u32, gates: &[u32], vector: u32, gate: GateNumber) -> bool
+    requires { ⌜ Sound lines (now gates) ⌝ }
+    requires { ⌜ (0 < gate .0) × (gate .0 ≤ length (gatesOf (now gates))) ⌝ }
+    ensures { λ r. ⌜ r ≡ fires (gateAt (gatesOf (now (gates .entry))) (gate .0)) (forward (gatesOf (now (gates .entry))) (gate .0 - 1) vector) ⌝ }
+{
+    let state = run_forward(lines, gates, numbers::level_read(gate), vector);
+    fires(gate_at(gates, gate), state)
+}
+
+// Whether a line is 0 at the level that a gate reads, and all controls of a gate in its place are 1.
+fn catches_control(
+    lines: u32,
+    gates: &[u32],
+    vector: u32,
+    gate: GateNumber,
+    line: u32,
+    other: Gate,
+) -> bool
+    requires { ⌜ Sound lines (now gates) ⌝ }
+    requires { ⌜ (0 < gate .0) × ((gate .0 ≤ length (gatesOf (now gates))) × (line < 32)) ⌝ }
+    ensures { λ r. ⌜ r ≡ (eqb (bit (forward (gatesOf (now (gates .entry))) (gate .0 - 1) vector) line) 0 && fires other (forward (gatesOf (now (gates .entry))) (gate .0 - 1) vector)) ⌝ }
+{
+    let state = run_forward(lines, gates, numbers::level_read(gate), vector);
+    if words::checked::value(state, line) != 0 {
+        return false;
+    }
+    fires(other, state)
+}
+
+// Whether a vector catches a fault: the condition of its class.
+pub fn catches(lines: u32, gates: &[u32], vector: u32, fault: Fault) -> bool
+    requires { ⌜ Sound lines (now gates) ⌝ }
+    requires { ⌜ isFault lines (gatesOf (now gates)) fault ≡ true ⌝ }
+    ensures { λ r. ⌜ r ≡ caught (gatesOf (now (gates .entry))) fault vector ⌝ }
+{
+    let class = fault.class;
+    let place = fault.place;
+    let line = fault.line;
+    if class == 1 {
+        return catches_stuck_at(lines, gates, vector, fault);
+    }
+    let number = numbers::gate(place as usize);
+    if class == 2 {
+        return catches_missing_gate(lines, gates, vector, number);
+    }
+    let gate = gate_at(gates, number);
+    if class == 3 {
+        return catches_control(lines, gates, vector, number, line, less_control(gate, line));
+    }
+    catches_control(lines, gates, vector, number, line, gate)
+}
+
+// One entry's line, forced where the state is at its level.
+fn force_entry(fault: Fault, level: u32, state: u32) -> u32
+    requires { ⌜ fault .line < 32 ⌝ }
+    ensures { λ r. ⌜ r ≡ pick (eqb (fault .place) level) (force state (fault .line) (fault .value)) state ⌝ }
+{
+    if fault.place == level {
+        words::checked::force(state, fault.line, fault.value)
+    } else {
+        state
+    }
+}
+
+// The lines stuck at a level, forced.
+fn force_level(lines: u32, gates: &[u32], entries: &[u32], level: u32, state: u32) -> u32
+    requires { ⌜ Sound lines (now gates) ⌝ }
+    requires { ⌜ Entries lines (gatesOf (now gates)) (now entries) ⌝ }
+    ensures { λ r. ⌜ r ≡ forceAt (faultsOf (now (entries .entry))) level state ⌝ }
+{
+    let whole = entries.len() / 4;
+    let mut now = state;
+    let mut i = 0;
+    while i < whole {
+        now = force_entry(records::record_at(entries, i), level, now);
+        i += 1;
+    }
+    now
+}
+
+// The output with several lines stuck.
+pub fn run_stuck(lines: u32, gates: &[u32], entries: &[u32], vector: u32) -> u32
+    requires { ⌜ Sound lines (now gates) ⌝ }
+    requires { ⌜ Entries lines (gatesOf (now gates)) (now entries) ⌝ }
+    ensures { λ r. ⌜ r ≡ stuckRun (faultsOf (now (entries .entry))) 0 (gatesOf (now (gates .entry))) vector ⌝ }
+{
+    let end = gates.len() / 3;
+    let mut state = vector;
+    let mut i = 0;
+    while i < end {
+        let forced = force_level(lines, gates, entries, i as u32, state);
+        state = step(
+            gate_at(gates, numbers::gate_after(numbers::level(i))),
+            forced,
+        );
+        i += 1;
+    }
+    force_level(lines, gates, entries, end as u32, state)
+}
+
+// Whether a vector catches several stuck lines together: the whole faulty run decides.
+pub fn catches_multiple(lines: u32, gates: &[u32], vector: u32, entries: &[u32]) -> bool
+    requires { ⌜ Sound lines (now gates) ⌝ }
+    requires { ⌜ Entries lines (gatesOf (now gates)) (now entries) ⌝ }
+    ensures { λ r. ⌜ r ≡ caughtTogether (gatesOf (now (gates .entry))) (faultsOf (now (entries .entry))) vector ⌝ }
+{
+    let good = run_forward(lines, gates, numbers::level(gates.len() / 3), vector);
+    run_stuck(lines, gates, entries, vector) != good
+}
+
+// Whether the test for a fault wants a line at 0.
+fn line_at_zero(fault: Fault) -> bool
+    ensures { λ r. ⌜ r ≡ lineAtZero fault ⌝ }
+{
+    let class = fault.class;
+    if class == 1 {
+        return fault.value == 1;
+    }
+    if class == 3 {
+        return true;
+    }
+    class == 4
+}
+
+// All lines 1, save the one that the test for a fault wants at 0.
+fn test_state(lines: u32, fault: Fault) -> u32
+    requires { ⌜ (lines ≤ 32) × (fault .line < 32) ⌝ }
+    ensures { λ r. ⌜ r ≡ testState lines fault ⌝ }
+{
+    let ones = words::checked::all_ones(lines);
+    if line_at_zero(fault) {
+        words::checked::force(ones, fault.line, 0)
+    } else {
+        ones
+    }
+}
+
+// The test for a fault, worked backward from the level where it shows.
+pub fn test_for(lines: u32, gates: &[u32], fault: Fault) -> u32
+    requires { ⌜ Sound lines (now gates) ⌝ }
+    requires { ⌜ isFault lines (gatesOf (now gates)) fault ≡ true ⌝ }
+    ensures { λ r. ⌜ r ≡ testFor lines (gatesOf (now (gates .entry))) fault ⌝ }
+{
+    let place = fault.place;
+    let state = test_state(lines, fault);
+    if fault.class == 1 {
+        return run_backward(lines, gates, numbers::level(place as usize), state);
+    }
+    run_backward(
+        lines,
+        gates,
+        numbers::level_read(numbers::gate(place as usize)),
+        state,
+    )
+}
