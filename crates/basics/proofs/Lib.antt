@@ -1,3 +1,7 @@
 pub mod Tests
 pub mod All
 pub mod Lists
+pub mod Kept
+pub mod KeptCounts
+pub mod ListMore
+pub mod SumLaws

@@ -2,11 +2,11 @@
 use Prim.Native.Nat.{ℕ, zero, suc, _+_, _*_, _≤_, _<_}
 use mathlib.Core.Path.{_≡_, refl, sym, ap, _∙_, subst, fun-ext}
 use mathlib.Core.Bool.{Bool, true, false, not, _&&_, _||_, false≢true}
-use mathlib.Core.List.{List, [], _∷_, List·Memᴰ, List·Memᴰ·head, List·Memᴰ·tail, nil≢cons}
-use native.Mathlib.Nat.{le-refl, zero-mul}
+use mathlib.Core.List.{List, [], _∷_, map, List·Memᴰ, List·Memᴰ·head, List·Memᴰ·tail, nil≢cons}
+use native.Mathlib.Nat.{le-refl, zero-mul, add-zero}
 use native.Mathlib.Numerals.{add-one}
 use native.Mathlib.Omega.{arith}
-use lib.ListN.{length, getD, drop, length-append, drop-of-length-le}
+use lib.ListN.{length, getD, drop, length-append, length-map, drop-of-length-le}
 use lib.Seq.{drop-cons}
 use Rattle.basics.specs.Choice.{pick, count}
 use Rattle.basics.specs.Lists.{upFrom, keep, each, some, All}
@@ -140,3 +140,13 @@ pub length-upFrom : (a k : ℕ) → length (upFrom a k) ≡ k
 unfolding upFrom
 length-upFrom a zero = refl
 length-upFrom a (suc k) = ap suc (length-upFrom (suc a) k)
+
+-- what a function makes of the number at place i
+pub map-upFrom-at : (f : ℕ → ℕ) (a k i : ℕ) → i < k → getD (map f (upFrom a k)) i 0 ≡ f (a + i)
+unfolding upFrom
+map-upFrom-at f a zero i h = absurd (omega arith)
+map-upFrom-at f a (suc k) zero h = ap f (sym (add-zero a))
+map-upFrom-at f a (suc k) (suc i) h = map-upFrom-at f (suc a) k i (omega arith) ∙ ap f (omega arith)
+
+pub length-map-upFrom : (f : ℕ → ℕ) (a k : ℕ) → length (map f (upFrom a k)) ≡ k
+length-map-upFrom f a k = length-map (upFrom a k) f ∙ length-upFrom a k

@@ -3,3 +3,5 @@ pub mod ControlLaws
 pub mod RunLaws
 pub mod RuleLaws
 pub mod AnswerLaws
+pub mod StepLaws
+pub mod NoControlLaws

@@ -1,13 +1,12 @@
 -- Laws of the rules of a circuit: which test breaks which rule, and what a circuit that breaks none is.
 use Prim.Native.Nat.{ℕ, _+_, _-_, _*_, _/_, _%_, _^_, _<_, _≤_}
-use mathlib.Core.Path.{_≡_, refl, ap, sym, _∙_}
-use mathlib.Core.Bool.{Bool, true, false, not, _||_}
-use mathlib.Core.List.{List, [], _∷_, _++_}
+use mathlib.Core.Path.{_≡_, ap}
+use mathlib.Core.Bool.{true, false, not, _||_}
+use mathlib.Core.List.{List, _++_}
 use native.Mathlib.Omega.{arith}
 use lib.ListN.{length}
 use lib.Dec.{eqb, ltb, leb}
-use borrow.Author.Tests.{ltb-false, leb-false, eqb-false, eqb-true, not-false, lt-ltb, le-ltb, le-leb, lt-leb, eq-eqb, ne-eqb}
-use Rattle.basics.specs.Choice.{pick}
+use borrow.Author.Tests.{ltb-false, leb-false, eqb-true, not-false, lt-ltb, le-ltb, le-leb, lt-leb, eq-eqb, ne-eqb}
 use Rattle.basics.specs.Lists.{All}
 use Rattle.basics.proofs.Tests.{or-neither, or-false, or-left, or-right}
 use Rattle.basics.proofs.All.{all-map, all-at}
@@ -17,7 +16,7 @@ use Rattle.refusals.proofs.Tables.{fine-row, fine-parts}
 use Rattle.refusals.proofs.Places.{bad-le, none-bad, none-left}
 use Rattle.circuit.specs.Gates.{gatesOf, noGate, gateAt}
 use Rattle.circuit.specs.Controls.{isControl}
-use Rattle.circuit.specs.Rules.{badGate, firstBadGate, circuitRows, vectorRows, levelRows, runRows}
+use Rattle.circuit.specs.Rules.{badGate, firstBadGate, circuitSetRows, circuitRows, firstBadVector, setRows, vectorRows, levelRows, runRows}
 use Rattle.circuit.specs.Sound.{GateOk, AllOk, Sound}
 use Rattle.circuit.specs.declared.Gate.{Gate}
 use Rattle.circuit.proofs.GateLaws.{gates-count}
@@ -66,11 +65,14 @@ lines-many n h = or-right (ltb n 1) (lt-ltb 32 n h)
 pub lines-right : (n : ℕ) → (n ≡ 0 → ⊥) → n ≤ 32 → ltb n 1 || ltb 32 n ≡ false
 lines-right n e h = or-false (le-ltb n 1 (omega arith)) (le-ltb 32 n h)
 
-pub gates-many : (words : List ℕ) → 1024 < length words / 3 → ltb 1024 (length (gatesOf words)) ≡ true
-gates-many words h = lt-ltb 1024 (length (gatesOf words)) (omega (arith, gates-count words))
+pub gates-many : (words : List ℕ) (m : ℕ) → 1024 < length words / 3 → ltb 1024 (length (gatesOf words)) || ltb 2048 m ≡ true
+gates-many words m h = or-left _ (lt-ltb 1024 (length (gatesOf words)) (omega (arith, gates-count words)))
 
-pub gates-few : (words : List ℕ) → length words / 3 ≤ 1024 → ltb 1024 (length (gatesOf words)) ≡ false
-gates-few words h = le-ltb 1024 (length (gatesOf words)) (omega (arith, gates-count words))
+pub vectors-many : (words : List ℕ) (m : ℕ) → 2048 < m → ltb 1024 (length (gatesOf words)) || ltb 2048 m ≡ true
+vectors-many words m h = or-right (ltb 1024 (length (gatesOf words))) (lt-ltb 2048 m h)
+
+pub sizes-right : (words : List ℕ) (m : ℕ) → length words / 3 ≤ 1024 → m ≤ 2048 → ltb 1024 (length (gatesOf words)) || ltb 2048 m ≡ false
+sizes-right words m h k = or-false (le-ltb 1024 (length (gatesOf words)) (omega (arith, gates-count words))) (le-ltb 2048 m k)
 
 -- the number of a bad gate is a gate's, or the next
 pub first-bad-le : (n : ℕ) (words : List ℕ) → firstBadGate n words ≤ 1 + length words / 3
@@ -88,26 +90,65 @@ sound-whole n words e =
     let z = eqb-true (length words % 3) 0 (not-false (eqb (length words % 3) 0) (none-left (badGate n) (not (eqb (length words % 3) 0)) (gatesOf words) 0 e)) in
     omega (arith, gates-count words)
 
-pub sound : (n : ℕ) (words : List ℕ) → fine ≡ firstOf (circuitRows n words) fine → Sound n words
-unfolding circuitRows
-sound n words e0 =
+-- with a set of m vectors
+pub record SetOk (n : ℕ) (words : List ℕ) (m : ℕ) : Type 0 where
+  pub circuit : Sound n words
+  pub vectors-fit : m ≤ 2048
+
+pub circuit-set-ok : (n : ℕ) (words : List ℕ) (m : ℕ) → fine ≡ firstOf (circuitSetRows n words m) fine → SetOk n words m
+unfolding circuitSetRows
+circuit-set-ok n words m e0 =
     let e1 = fine-row (ltb n 1 || ltb 32 n) 3 0 _ e0 in
     let lines = or-neither (ltb n 1) (ltb 32 n) (e1 .0) in
-    let e2 = fine-row (ltb 1024 (length (gatesOf words))) 5 0 _ (e1 .1) in
+    let e2 = fine-row (ltb 1024 (length (gatesOf words)) || ltb 2048 m) 5 0 _ (e1 .1) in
+    let sizes = or-neither (ltb 1024 (length (gatesOf words))) (ltb 2048 m) (e2 .0) in
     let e3 = fine-row (not (eqb (firstBadGate n words) 0)) 7 (firstBadGate n words) _ (e2 .1) in
     let bad = eqb-true (firstBadGate n words) 0 (not-false (eqb (firstBadGate n words) 0) (e3 .0)) in
     record {
-      some-lines = ltb-false n 1 (lines .0);
-      lines-fit = ltb-false 32 n (lines .1);
-      gates-fit = ltb-false 1024 (length (gatesOf words)) (e2 .0);
-      whole = sound-whole n words bad;
-      gates-ok = sound-gates n words bad;
+      circuit = record {
+        some-lines = ltb-false n 1 (lines .0);
+        lines-fit = ltb-false 32 n (lines .1);
+        gates-fit = ltb-false 1024 (length (gatesOf words)) (sizes .0);
+        whole = sound-whole n words bad;
+        gates-ok = sound-gates n words bad;
+      };
+      vectors-fit = ltb-false 2048 m (sizes .1);
     }
 
--- gate g, from 1, of a sound circuit
-pub gate-ok : (n : ℕ) (words : List ℕ) (g : ℕ) → Sound n words → 0 < g → g ≤ length (gatesOf words) → GateOk n (gateAt (gatesOf words) g)
+pub sound : (n : ℕ) (words : List ℕ) → fine ≡ firstOf (circuitRows n words) fine → Sound n words
+unfolding circuitRows
+sound n words e = circuit-set-ok n words 0 e .circuit
+
+-- a set whose vectors all fit
+pub record VectorsOk (n : ℕ) (words xs : List ℕ) : Type 0 where
+  pub set : SetOk n words (length xs)
+  pub vectors : All (λ x. x < 2 ^ n) xs
+
+vectors-good : (n : ℕ) (xs : List ℕ) → firstBadVector n xs ≡ 0 → All (λ x. x < 2 ^ n) xs
+unfolding firstBadVector
+vectors-good n xs e = all-map (λ x. leb-false (2 ^ n) x) xs (none-bad (leb (2 ^ n)) false xs 0 e)
+
+pub vectors-ok : (n : ℕ) (words xs : List ℕ) → fine ≡ firstOf (setRows n words xs) fine → VectorsOk n words xs
+unfolding setRows
+vectors-ok n words xs e =
+    let w = fine-parts (circuitSetRows n words (length xs)) _ e in
+    let bad = fine-row (not (eqb (firstBadVector n xs) 0)) 8 (firstBadVector n xs) fine (w .1) in
+    record {
+      set = circuit-set-ok n words (length xs) (w .0);
+      vectors = vectors-good n xs (eqb-true (firstBadVector n xs) 0 (not-false (eqb (firstBadVector n xs) 0) (bad .0)));
+    }
+
+pub first-vector-le : (n : ℕ) (xs : List ℕ) → firstBadVector n xs ≤ 1 + length xs
+unfolding firstBadVector
+first-vector-le n xs = bad-le (leb (2 ^ n)) false xs 1
+
+-- gate g, from 1
+pub gate-at-ok : (n : ℕ) (gs : List Gate) (g : ℕ) → AllOk n gs → 0 < g → g ≤ length gs → GateOk n (gateAt gs g)
 unfolding gateAt
-gate-ok n words g s p h = all-at (GateOk n) (gatesOf words) (g - 1) noGate (omega arith) (s .gates-ok)
+gate-at-ok n gs g ok p h = all-at (GateOk n) gs (g - 1) noGate (omega arith) ok
+
+pub gate-ok : (n : ℕ) (words : List ℕ) (g : ℕ) → Sound n words → 0 < g → g ≤ length (gatesOf words) → GateOk n (gateAt (gatesOf words) g)
+gate-ok n words g s p h = gate-at-ok n (gatesOf words) g (s .gates-ok) p h
 
 pub target-fits : (n : ℕ) (words : List ℕ) (g : ℕ) → Sound n words → 0 < g → g ≤ length (gatesOf words) → gateAt (gatesOf words) g .target < 32
 target-fits n words g s p h = let ok = gate-ok n words g s p h in omega arith

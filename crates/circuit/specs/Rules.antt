@@ -1,6 +1,6 @@
 -- The rules of a circuit, of a state and of a level, in the order of their numbers.
 use Prim.Native.Nat.{ℕ, _%_, _^_}
-use mathlib.Core.Bool.{Bool, not, _||_}
+use mathlib.Core.Bool.{Bool, false, not, _||_}
 use mathlib.Core.List.{List, [], _∷_, _++_}
 use lib.ListN.{length}
 use lib.Dec.{eqb, ltb, leb}
@@ -19,11 +19,23 @@ badGate n g = leb (2 ^ n) (g .controls) || (not (eqb (g .spare) 0) || (leb n (g 
 unfoldable pub firstBadGate : ℕ → List ℕ → ℕ
 firstBadGate n words = firstBad (badGate n) (not (eqb (length words % 3) 0)) (gatesOf words)
 
-unfoldable pub circuitRows : ℕ → List ℕ → List Row
-circuitRows n words =
+-- a circuit with a set of m vectors
+unfoldable pub circuitSetRows : ℕ → List ℕ → ℕ → List Row
+circuitSetRows n words m =
     refuse 3 at 0 when (ltb n 1 || ltb 32 n) ∷
-    refuse 5 at 0 when ltb 1024 (length (gatesOf words)) ∷
+    refuse 5 at 0 when (ltb 1024 (length (gatesOf words)) || ltb 2048 m) ∷
     refuse 7 at firstBadGate n words when not (eqb (firstBadGate n words) 0) ∷ []
+
+-- a circuit with no set
+unfoldable pub circuitRows : ℕ → List ℕ → List Row
+circuitRows n words = circuitSetRows n words 0
+
+-- the vectors of a set
+unfoldable pub firstBadVector : ℕ → List ℕ → ℕ
+firstBadVector n xs = firstBad (leb (2 ^ n)) false xs
+
+unfoldable pub setRows : ℕ → List ℕ → List ℕ → List Row
+setRows n words xs = circuitSetRows n words (length xs) ++ (refuse 8 at firstBadVector n xs when not (eqb (firstBadVector n xs) 0) ∷ [])
 
 -- a vector or a state that is asked alone
 unfoldable pub vectorRows : ℕ → ℕ → List Row

@@ -4,7 +4,7 @@ ghost use mathlib.Core.List.{[], _++_};
 ghost use Prim.Native.Nat.{_≤_};
 ghost use Rattle.refusals.specs.Tables.{firstOf};
 ghost use Rattle.refusals.specs.Checks.{fine, found};
-ghost use Rattle.circuit.specs.Rules.{badGate, firstBadGate, circuitRows, vectorRows, runRows};
+ghost use Rattle.circuit.specs.Rules.{badGate, firstBadGate, circuitSetRows, circuitRows, firstBadVector, setRows, vectorRows, runRows};
 use crate::Gate;
 use crate::checked;
 use crate::numbers;
@@ -48,9 +48,9 @@ pub fn first_bad_gate(lines: u32, gates: &[u32]) -> usize
     if gates.len() % 3 == 0 { 0 } else { whole + 1 }
 }
 
-// The rules of a circuit.
-pub fn check_circuit(lines: u32, gates: &[u32]) -> Checked
-    ensures { λ r. ⌜ found r ≡ firstOf (circuitRows lines (now (gates .entry))) fine ⌝ }
+// The rules of a circuit with a set of so many vectors.
+pub fn check_circuit_set(lines: u32, gates: &[u32], vectors: usize) -> Checked
+    ensures { λ r. ⌜ found r ≡ firstOf (circuitSetRows lines (now (gates .entry)) vectors) fine ⌝ }
 {
     if lines == 0 {
         return Checked::Wrong(Refusal {
@@ -70,10 +70,55 @@ pub fn check_circuit(lines: u32, gates: &[u32]) -> Checked
             place: 0,
         });
     }
+    if 2048 < vectors {
+        return Checked::Wrong(Refusal {
+            number: 5,
+            place: 0,
+        });
+    }
     let bad = first_bad_gate(lines, gates);
     if bad != 0 {
         return Checked::Wrong(Refusal {
             number: 7,
+            place: bad as u32,
+        });
+    }
+    Checked::Fine
+}
+
+// The rules of a circuit.
+pub fn check_circuit(lines: u32, gates: &[u32]) -> Checked
+    ensures { λ r. ⌜ found r ≡ firstOf (circuitRows lines (now (gates .entry))) fine ⌝ }
+{
+    check_circuit_set(lines, gates, 0)
+}
+
+// The place of the first vector of 2 ^ n or more, and 0 where none is.
+fn first_bad_vector(lines: u32, vectors: &[u32]) -> usize
+    requires { ⌜ lines ≤ 32 ⌝ }
+    ensures { λ r. ⌜ r ≡ firstBadVector lines (now (vectors .entry)) ⌝ }
+{
+    let mut i = 0;
+    while i < vectors.len() {
+        if !words::checked::below(vectors[i], lines) {
+            return i + 1;
+        }
+        i += 1;
+    }
+    0
+}
+
+// The rules of a circuit and a set.
+pub fn check_set(lines: u32, gates: &[u32], vectors: &[u32]) -> Checked
+    ensures { λ r. ⌜ found r ≡ firstOf (setRows lines (now (gates .entry)) (now (vectors .entry))) fine ⌝ }
+{
+    if let Checked::Wrong(refusal) = check_circuit_set(lines, gates, vectors.len()) {
+        return Checked::Wrong(refusal);
+    }
+    let bad = first_bad_vector(lines, vectors);
+    if bad != 0 {
+        return Checked::Wrong(Refusal {
+            number: 8,
             place: bad as u32,
         });
     }

@@ -5,7 +5,7 @@ use mathlib.Core.Bool.{Bool, true, false}
 use mathlib.Core.List.{List, [], _∷_, _++_}
 use native.Mathlib.Omega.{arith}
 use Rattle.basics.specs.Choice.{pick}
-use Rattle.refusals.specs.Tables.{Row, Told, firstOf}
+use Rattle.refusals.specs.Tables.{Row, Told, firstOf, after}
 use Rattle.refusals.specs.Tables.Row.{refuse_at_when_}
 use Rattle.refusals.specs.Tables.Told.{answered, refused}
 use Rattle.refusals.specs.Checks.{fine}
@@ -36,6 +36,17 @@ pub fine-all : (rows : List Row) (answer : Told) → fine ≡ firstOf rows fine 
 fine-all [] answer e = refl
 fine-all (refuse n at q when true ∷ rows) answer e = absurd (clash (sym e))
 fine-all (refuse n at q when false ∷ rows) answer e = fine-all rows answer e
+
+-- and of memory: a refused call leaves it, and any other makes of it what it makes
+pub after-refused {ℓ} : {A : Type ℓ} (rows : List Row) (made old : A) (k p : ℕ) → refused k p ≡ firstOf rows fine → old ≡ after rows made old
+after-refused [] made old k p e = absurd (clash e)
+after-refused (refuse n at q when true ∷ rows) made old k p e = refl
+after-refused (refuse n at q when false ∷ rows) made old k p e = after-refused rows made old k p e
+
+pub after-fine {ℓ} : {A : Type ℓ} (rows : List Row) (made old : A) → fine ≡ firstOf rows fine → made ≡ after rows made old
+after-fine [] made old e = refl
+after-fine (refuse n at q when true ∷ rows) made old e = absurd (clash (sym e))
+after-fine (refuse n at q when false ∷ rows) made old e = after-fine rows made old e
 
 -- a table of which no rule is broken has no broken rule in its parts
 pub fine-parts : (rows more : List Row) → fine ≡ firstOf (rows ++ more) fine → (fine ≡ firstOf rows fine) × (fine ≡ firstOf more fine)

@@ -12,6 +12,6 @@ firstBadFrom bad leftOver place (a ∷ rest) = pick (bad a) place (firstBadFrom 
 abbrev pub firstBad {ℓ} : {A : Type ℓ} → (A → Bool) → Bool → List A → ℕ
 firstBad bad leftOver entries = firstBadFrom bad leftOver 1 entries
 
--- a place as a word can tell it: a list of 2 ^ 32 entries and more has places that no word holds, and the largest word stands for them
-unfoldable pub toldPlace : ℕ → ℕ
-toldPlace place = min place (2 ^ 32 - 1)
+-- a place or a number of entries as a word can tell it: what no word holds, in a list of 2 ^ 32 entries or more, is told as the largest word
+unfoldable pub inWord : ℕ → ℕ
+inWord number = min number (2 ^ 32 - 1)

@@ -18,3 +18,8 @@ pub data Told : Type 0 where
 abbrev pub firstOf : List Row → Told → Told
 firstOf [] answer = answer
 firstOf (refuse number at place when broken ∷ rows) answer = pick broken (refused number place) (firstOf rows answer)
+
+-- what lent memory holds after a call: what the call makes of it where no rule is broken, and else what it held
+abbrev pub after {ℓ} : {A : Type ℓ} → List Row → A → A → A
+after [] made old = made
+after (refuse number at place when broken ∷ rows) made old = pick broken old (after rows made old)

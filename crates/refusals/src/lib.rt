@@ -4,7 +4,7 @@ ghost use mathlib.Core.Bool.{not};
 ghost use mathlib.Core.List.{[], _∷_};
 ghost use Rattle.refusals.specs.Tables.{firstOf};
 ghost use Rattle.refusals.specs.Tables.Row.{refuse_at_when_};
-ghost use Rattle.refusals.specs.Places.{toldPlace};
+ghost use Rattle.refusals.specs.Places.{inWord};
 ghost use Rattle.refusals.specs.Checks.{fine, found};
 
 // The number of a refusal and the place that is told with it.
@@ -30,12 +30,12 @@ pub fn unless(holds: bool, number: u32, place: u32) -> Checked
     }
 }
 
-// A place in a list, as a word can tell it: a place that no word holds is told as the largest.
-pub fn told_place(place: usize) -> u32
-    ensures { λ r. ⌜ r ≡ toldPlace place ⌝ }
+// A place in a list or a number of entries, as a word can tell it: what no word holds is told as the largest.
+pub fn in_word(number: usize) -> u32
+    ensures { λ r. ⌜ r ≡ inWord number ⌝ }
 {
-    if place < 4294967295 {
-        place as u32
+    if number < 4294967295 {
+        number as u32
     } else {
         4294967295
     }

@@ -7,3 +7,4 @@ pub mod StuckLaws
 pub mod TestLaws
 pub mod ClassLaws
 pub mod AnswerLaws
+pub mod UnchangedLaws

@@ -9,7 +9,8 @@ use native.Mathlib.Omega.{arith}
 use lib.ListN.{length, getD, drop, drop-of-length-le}
 use lib.Seq.{drop-cons}
 use Rattle.basics.specs.Lists.{some}
-use Rattle.simulator.specs.Rules.{faultsOf, noFault, sameSite, siteTwice}
+use Rattle.simulator.specs.Rules.{faultsOf, noFault}
+use Rattle.simulator.specs.Multiple.{sameSite, siteTwice}
 use Rattle.simulator.specs.declared.Fault.{Fault}
 
 -- as many whole records as the list has fours

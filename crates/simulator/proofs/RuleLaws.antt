@@ -17,7 +17,7 @@ use Rattle.refusals.specs.Tables.{firstOf}
 use Rattle.refusals.specs.Tables.Row.{refuse_at_when_}
 use Rattle.refusals.specs.Tables.Told.{refused}
 use Rattle.refusals.specs.Checks.{fine}
-use Rattle.refusals.specs.Places.{toldPlace}
+use Rattle.refusals.specs.Places.{inWord}
 use Rattle.refusals.proofs.Tables.{fine-row, fine-parts}
 use Rattle.refusals.proofs.Places.{none-bad, none-left}
 use Rattle.circuit.specs.Gates.{gatesOf, gateAt}
@@ -27,7 +27,8 @@ use Rattle.circuit.specs.Sound.{Sound}
 use Rattle.circuit.specs.declared.Gate.{Gate}
 use Rattle.circuit.proofs.RuleLaws.{sound, VectorOk, vector-ok}
 use Rattle.simulator.specs.Sites.{sites}
-use Rattle.simulator.specs.Rules.{isStuckAt, isGate, isMissingGate, isMissingControl, isExtraControl, isFault, faultRows, catchRows, testRows, faultsOf, firstBadRecord, badEntry, siteTwice, entriesRows, multipleRows}
+use Rattle.simulator.specs.Rules.{isStuckAt, isGate, isMissingGate, isMissingControl, isExtraControl, isFault, faultRows, catchRows, testRows, faultsOf, firstBadRecord}
+use Rattle.simulator.specs.Multiple.{badEntry, siteTwice, entriesRows, multipleRows}
 use Rattle.simulator.specs.Entries.{StuckOk, Entries}
 use Rattle.simulator.specs.declared.Fault.{Fault}
 use Rattle.simulator.proofs.SiteLaws.{site-line}
@@ -179,12 +180,12 @@ unfolding multipleRows entriesRows
 multiple-ok n words x list e =
     let w = fine-parts (circuitRows n words ++ vectorRows n x) (entriesRows n words list) e in
     let bad = firstBadRecord (badEntry n (gatesOf words)) list in
-    let none = eqb-true bad 0 (not-false (eqb bad 0) (fine-row (not (eqb bad 0)) 9 (toldPlace bad) _ (w .1) .0)) in
+    let none = eqb-true bad 0 (not-false (eqb bad 0) (fine-row (not (eqb bad 0)) 9 (inWord bad) _ (w .1) .0)) in
     record { vector = vector-ok n words x (w .0); entries = entries-good n (gatesOf words) list none }
 
 -- which test of the entries breaks which rule
 module _ (n : ℕ) (words list : List ℕ) where
-  pub entries-bad : (bad : ℕ) → bad ≡ firstBadRecord (badEntry n (gatesOf words)) list → bad ≢ 0 → refused 9 (toldPlace bad) ≡ firstOf (entriesRows n words list) fine
+  pub entries-bad : (bad : ℕ) → bad ≡ firstBadRecord (badEntry n (gatesOf words)) list → bad ≢ 0 → refused 9 (inWord bad) ≡ firstOf (entriesRows n words list) fine
   unfolding entriesRows
   entries-bad bad e d = rw (← e, ne-eqb bad 0 d)
 

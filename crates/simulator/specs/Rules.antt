@@ -1,15 +1,14 @@
--- The rules of a fault, of a fault list and of a multiple fault.
+-- The rules of a fault and of a list of fault records.
 use Prim.Native.Nat.{ℕ, _%_}
-use mathlib.Core.Bool.{Bool, false, not, _&&_, _||_}
+use mathlib.Core.Bool.{Bool, false, not, _&&_}
 use mathlib.Core.List.{List, [], _∷_, _++_}
 use lib.ListN.{length}
 use lib.Dec.{eqb, ltb, leb}
 use Rattle.basics.specs.Choice.{pick}
-use Rattle.basics.specs.Lists.{some}
 use Rattle.words.specs.Word.{bit}
 use Rattle.refusals.specs.Tables.{Row}
 use Rattle.refusals.specs.Tables.Row.{refuse_at_when_}
-use Rattle.refusals.specs.Places.{firstBad, toldPlace}
+use Rattle.refusals.specs.Places.{firstBad}
 use Rattle.circuit.specs.Gates.{gatesOf, gateAt}
 use Rattle.circuit.specs.Controls.{isControl}
 use Rattle.circuit.specs.Rules.{circuitRows, vectorRows}
@@ -78,23 +77,3 @@ faultsOf (c ∷ p ∷ l ∷ v ∷ rest) = record { class = c; place = p; line = 
 -- the place of the first bad record; words left over are one more bad record
 unfoldable pub firstBadRecord : (Fault → Bool) → List ℕ → ℕ
 firstBadRecord bad list = firstBad bad (not (eqb (length list % 4) 0)) (faultsOf list)
-
--- ---- a multiple fault: 1 to 256 entries of class 1, no site named twice
-
-unfoldable pub badEntry : ℕ → List Gate → Fault → Bool
-badEntry n gs f = not (eqb (f .class) 1 && isStuckAt n gs f)
-
-unfoldable pub sameSite : Fault → Fault → Bool
-sameSite f h = eqb (f .place) (h .place) && eqb (f .line) (h .line)
-
-unfoldable pub siteTwice : List Fault → Bool
-siteTwice [] = false
-siteTwice (f ∷ fs) = some (sameSite f) fs || siteTwice fs
-
-unfoldable pub entriesRows : ℕ → List ℕ → List ℕ → List Row
-entriesRows n words list =
-    refuse 9 at toldPlace (firstBadRecord (badEntry n (gatesOf words)) list) when not (eqb (firstBadRecord (badEntry n (gatesOf words)) list) 0) ∷
-    refuse 13 at 0 when (eqb (length (faultsOf list)) 0 || (ltb 256 (length (faultsOf list)) || siteTwice (faultsOf list))) ∷ []
-
-unfoldable pub multipleRows : ℕ → List ℕ → ℕ → List ℕ → List Row
-multipleRows n words x list = (circuitRows n words ++ vectorRows n x) ++ entriesRows n words list

@@ -8,7 +8,8 @@ ghost use Rattle.refusals.specs.Checks.{fine, found};
 ghost use Rattle.circuit.specs.Gates.{gatesOf};
 ghost use Rattle.circuit.specs.Sound.{Sound};
 ghost use Rattle.simulator.specs.Sites.{sites};
-ghost use Rattle.simulator.specs.Rules.{isStuckAt, isMissingGate, isMissingControl, isExtraControl, faultRows, catchRows, testRows, noFault, faultsOf, firstBadRecord, badEntry, sameSite, siteTwice, entriesRows, multipleRows};
+ghost use Rattle.simulator.specs.Rules.{isStuckAt, isMissingGate, isMissingControl, isExtraControl, faultRows, catchRows, testRows, noFault, faultsOf, firstBadRecord};
+ghost use Rattle.simulator.specs.Multiple.{badEntry, sameSite, siteTwice, entriesRows, multipleRows};
 use crate::Fault;
 use crate::records;
 use circuit::checked::gate_at;
@@ -230,7 +231,7 @@ pub fn check_entries(lines: u32, gates: &[u32], entries: &[u32]) -> Checked
     if bad != 0 {
         return Checked::Wrong(Refusal {
             number: 9,
-            place: refusals::told_place(bad),
+            place: refusals::in_word(bad),
         });
     }
     let number = entries.len() / 4;

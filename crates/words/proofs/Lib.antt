@@ -3,3 +3,9 @@ pub mod Lines
 pub mod Masks
 pub mod Counts
 pub mod Coded
+pub mod Inverse
+pub mod Halves
+pub mod LineLists
+pub mod WordOfLaws
+pub mod OrLaws
+pub mod LoneLaws

@@ -5,7 +5,7 @@ use Rattle.circuit.specs.Gates.{gatesOf}
 use Rattle.circuit.specs.Runs.{run}
 use Rattle.circuit.proofs.GateLaws.{gates-count}
 use Rattle.circuit.proofs.RunLaws.{forward-all}
-use Rattle.simulator.specs.Faults.{caughtTogether}
+use Rattle.simulator.specs.Multiple.{caughtTogether}
 use borrow.Author.Needs.{needs}
 use Rattle.simulator.proofs.checked.catches_multiple.Statement.{statement}
 use Rattle.simulator.proofs.checked.catches_multiple.Tie as tie

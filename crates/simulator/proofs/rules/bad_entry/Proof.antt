@@ -1,6 +1,6 @@
 -- `simulator::rules::bad_entry` meets its contract: an entry is a fault of class 1. Assumes nothing.
 use borrow.Author.Tests.{eq-eqb, ne-eqb}
-use Rattle.simulator.specs.Rules.{badEntry}
+use Rattle.simulator.specs.Multiple.{badEntry}
 use borrow.Author.Needs.{needs}
 use Rattle.simulator.proofs.rules.bad_entry.Statement.{statement}
 use Rattle.simulator.proofs.rules.bad_entry.Tie as tie

@@ -8,13 +8,13 @@ use Rattle.simulator.proofs.rules.check_entries.Tie as tie
 first-bad-entry-requires : tie.Need-first-bad-entry-requires
 first-bad-entry-requires c κs = search needs
 
-told-place-requires : tie.Need-told-place-requires
-told-place-requires c κs = search needs
+in-word-requires : tie.Need-in-word-requires
+in-word-requires c κs = search needs
 
 returns : tie.Need-returns
 returns c =
     let a = c .before .before .before .before .before .args in
-    rw (c .told-place .ensures) (entries-bad (a .lines) (a .gates .now) (a .entries .now) (c .before .before .first-bad-entry .result) (c .before .before .first-bad-entry .ensures) (c .before .if1 .taken))
+    rw (c .in-word .ensures) (entries-bad (a .lines) (a .gates .now) (a .entries .now) (c .before .before .first-bad-entry .result) (c .before .before .first-bad-entry .ensures) (c .before .if1 .taken))
 
 returns-2 : tie.Need-returns-2
 returns-2 c =
@@ -42,7 +42,7 @@ check-entries-spec =
     tie.close
     (tie.spec
     first-bad-entry-requires
-    told-place-requires
+    in-word-requires
     returns
     returns-2
     returns-3

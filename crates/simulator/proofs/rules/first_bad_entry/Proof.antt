@@ -11,7 +11,8 @@ use borrow.Author.Tests.{eq-eqb, ne-eqb}
 use Rattle.refusals.specs.Places.{firstBadFrom}
 use Rattle.refusals.proofs.Places.{bad-found, bad-passed, bad-end}
 use Rattle.circuit.specs.Gates.{gatesOf}
-use Rattle.simulator.specs.Rules.{noFault, faultsOf, firstBadRecord, badEntry}
+use Rattle.simulator.specs.Rules.{noFault, faultsOf, firstBadRecord}
+use Rattle.simulator.specs.Multiple.{badEntry}
 use Rattle.simulator.proofs.RecordLaws.{records-count}
 use Rattle.simulator.proofs.rules.first_bad_entry.Statement.{statement}
 use Rattle.simulator.proofs.rules.first_bad_entry.Tie as tie

@@ -6,7 +6,8 @@ use lib.ListN.{length, getD, drop}
 use borrow.Author.Needs.{needs}
 use Rattle.basics.specs.Lists.{some}
 use Rattle.basics.proofs.Lists.{some-found, some-passed, some-end}
-use Rattle.simulator.specs.Rules.{noFault, faultsOf, sameSite}
+use Rattle.simulator.specs.Rules.{noFault, faultsOf}
+use Rattle.simulator.specs.Multiple.{sameSite}
 use Rattle.simulator.proofs.RecordLaws.{records-count}
 use Rattle.simulator.proofs.rules.named_again.Statement.{statement}
 use Rattle.simulator.proofs.rules.named_again.Tie as tie

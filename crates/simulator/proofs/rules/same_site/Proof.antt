@@ -1,6 +1,6 @@
 -- `simulator::rules::same_site` meets its contract: a site is a level and a line. Assumes nothing.
 use borrow.Author.Tests.{eq-eqb, ne-eqb}
-use Rattle.simulator.specs.Rules.{sameSite}
+use Rattle.simulator.specs.Multiple.{sameSite}
 use Rattle.simulator.proofs.rules.same_site.Statement.{statement}
 use Rattle.simulator.proofs.rules.same_site.Tie as tie
 

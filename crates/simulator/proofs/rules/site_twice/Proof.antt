@@ -3,7 +3,8 @@ use Prim.Native.Nat.{_+_, _-_}
 use mathlib.Core.Path.{_≡_, refl, sym, _∙_}
 use native.Mathlib.Omega.{arith}
 use lib.ListN.{length, drop}
-use Rattle.simulator.specs.Rules.{faultsOf, siteTwice}
+use Rattle.simulator.specs.Rules.{faultsOf}
+use Rattle.simulator.specs.Multiple.{siteTwice}
 use Rattle.simulator.proofs.RecordLaws.{records-count, twice-found, twice-passed, twice-end}
 use Rattle.simulator.proofs.rules.site_twice.Statement.{statement}
 use Rattle.simulator.proofs.rules.site_twice.Tie as tie
