@@ -5,3 +5,4 @@ pub mod RuleLaws
 pub mod AnswerLaws
 pub mod StepLaws
 pub mod NoControlLaws
+pub mod LineLaws

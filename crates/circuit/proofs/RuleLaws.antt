@@ -12,7 +12,7 @@ use Rattle.basics.proofs.Tests.{or-neither, or-false, or-left, or-right}
 use Rattle.basics.proofs.All.{all-map, all-at}
 use Rattle.refusals.specs.Tables.{firstOf}
 use Rattle.refusals.specs.Checks.{fine}
-use Rattle.refusals.proofs.Tables.{fine-row, fine-parts}
+use Rattle.refusals.proofs.Tables.{Numbered, fine-row, fine-parts}
 use Rattle.refusals.proofs.Places.{bad-le, none-bad, none-left}
 use Rattle.circuit.specs.Gates.{gatesOf, noGate, gateAt}
 use Rattle.circuit.specs.Controls.{isControl}
@@ -164,6 +164,11 @@ unfolding vectorRows
 vector-ok n words x e =
     let w = fine-parts (circuitRows n words) (vectorRows n x) e in
     record { circuit = sound n words (w .0); vector = leb-false (2 ^ n) x (fine-row (leb (2 ^ n) x) 8 1 fine (w .1) .0) }
+
+-- every rule of them has a number
+pub vector-numbered : (n : ℕ) (words : List ℕ) (x : ℕ) → Numbered (circuitRows n words ++ vectorRows n x)
+unfolding circuitRows circuitSetRows vectorRows
+vector-numbered n words x = (λ e. omega arith, (λ e. omega arith, (λ e. omega arith, (λ e. omega arith, tt))))
 
 pub record RunOk (n : ℕ) (words : List ℕ) (i s : ℕ) : Type 0 where
   pub state : VectorOk n words s

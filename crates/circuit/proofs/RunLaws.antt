@@ -109,6 +109,10 @@ pub onward-forward : (gs : List Gate) (k x : ℕ) → onward gs 0 k x ≡ forwar
 unfolding onward forward
 onward-forward gs k x = refl
 
+pub forward-none : (gs : List Gate) (x : ℕ) → forward gs 0 x ≡ x
+unfolding forward run
+forward-none gs x = refl
+
 pub onward-rest : (gs : List Gate) (i s : ℕ) → onward gs i (length gs) s ≡ run (drop i gs) s
 unfolding onward
 onward-rest gs i s = ap (λ hs. run (drop i hs) s) (take-length gs)

@@ -3,9 +3,10 @@ ghost use mathlib.Core.Path.{_≡_};
 ghost use Prim.Native.Nat.{_*_, _<_, _≤_};
 ghost use lib.ListN.{length};
 ghost use Rattle.circuit.specs.Gates.{gatesOf, gateAt};
-ghost use Rattle.circuit.specs.Controls.{isControl, lessControl, moreControl};
+ghost use Rattle.circuit.specs.Controls.{isControl, lessControl, moreControl, isOther};
 ghost use Rattle.circuit.specs.Runs.{fires, step, forward, onward, backward};
-ghost use Rattle.circuit.specs.Sound.{Sound};
+ghost use Rattle.circuit.specs.Sound.{GateOk, Sound};
+ghost use Rattle.words.specs.WordOf.{wordOf};
 use crate::Gate;
 use crate::numbers;
 use crate::numbers::GateNumber;
@@ -39,6 +40,22 @@ pub fn is_control(gate: Gate, line: u32) -> bool
     ensures { λ r. ⌜ r ≡ isControl gate line ⌝ }
 {
     words::checked::value(gate.controls, line) == 1
+}
+
+// The controls of a gate, as a word.
+pub fn control_lines(lines: u32, gate: Gate) -> u32
+    requires { ⌜ GateOk lines gate ⌝ }
+    ensures { λ r. ⌜ r ≡ wordOf lines (isControl gate) ⌝ }
+{
+    gate.controls
+}
+
+// The lines that are neither a control nor the target of a gate, as a word.
+pub fn other_lines(lines: u32, gate: Gate) -> u32
+    requires { ⌜ (lines ≤ 32) × GateOk lines gate ⌝ }
+    ensures { λ r. ⌜ r ≡ wordOf lines (isOther gate) ⌝ }
+{
+    words::checked::flip(gate.controls ^ words::checked::all_ones(lines), gate.target)
 }
 
 // The gate without one of its controls.

@@ -59,6 +59,16 @@ pub fine-row : (broken : Bool) (k p : ℕ) (rest : Told) → fine ≡ pick broke
 fine-row true k p rest e = absurd (clash (sym e))
 fine-row false k p rest e = (refl, e)
 
+-- a refusal has the number of one of the rows, and none has number 0
+abbrev pub Numbered : List Row → Type 0
+Numbered [] = Unit {0}
+Numbered (refuse number at place when broken ∷ rows) = (number ≡ 0 → ⊥) × Numbered rows
+
+pub refused-number : (rows : List Row) (k p : ℕ) → Numbered rows → refused k p ≡ firstOf rows fine → k ≡ 0 → ⊥
+refused-number [] k p w e = λ z. clash e
+refused-number (refuse n at q when true ∷ rows) k p w e = λ z. let same : k ≡ n = cc in w .0 (sym same ∙ z)
+refused-number (refuse n at q when false ∷ rows) k p w e = refused-number rows k p (w .1) e
+
 -- two refusals that tell the same are the same
 pub told-refusal : (p q : Refusal) → refused (p .number) (p .place) ≡ refused (q .number) (q .place) → p ≡ q
 told-refusal p q e =

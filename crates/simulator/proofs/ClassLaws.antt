@@ -15,7 +15,7 @@ use Rattle.circuit.proofs.RuleLaws.{gate-ok}
 use Rattle.simulator.specs.Rules.{isFault}
 use Rattle.simulator.specs.Entries.{StuckOk}
 use Rattle.simulator.specs.declared.Fault.{Fault}
-use Rattle.simulator.proofs.RuleLaws.{class-one, class-two, class-three, class-four, class-last, stuck-at-ok, missing-gate-ok, missing-control-ok, extra-control-ok}
+use Rattle.simulator.proofs.RuleLaws.{class-one, class-two, class-three, class-four, class-last, stuck-at-ok, missing-gate-ok, missing-control-ok, extra-control-ok, missing-gate-value, missing-control-value, extra-control-value}
 
 module _ (n : ℕ) (words : List ℕ) (f : Fault) (ok : Sound n words) (is : isFault n (gatesOf words) f ≡ true) where
   pub stuck-fault : f .class ≡ 1 → StuckOk n (length (gatesOf words)) f
@@ -31,6 +31,14 @@ module _ (n : ℕ) (words : List ℕ) (f : Fault) (ok : Sound n words) (is : isF
       let e = class-last n (gatesOf words) f is d d2 d3 in
       let w = extra-control-ok n (gatesOf words) f (sym (class-four n (gatesOf words) f e) ∙ is) in
       (w .0, w .1)))
+
+  -- and no value
+  pub no-value : f .class ≢ 1 → f .value ≡ 0
+  no-value d = by-equal (f .class) 2
+      (λ e. missing-gate-value n (gatesOf words) f (sym (class-two n (gatesOf words) f e) ∙ is))
+      (λ d2. by-equal (f .class) 3
+      (λ e. missing-control-value n (gatesOf words) f (sym (class-three n (gatesOf words) f e) ∙ is))
+      (λ d3. extra-control-value n (gatesOf words) f (sym (class-four n (gatesOf words) f (class-last n (gatesOf words) f is d d2 d3)) ∙ is)))
 
   -- a missing control is a control, and an extra one is not
   pub is-missing : f .class ≡ 3 → isControl (gateAt (gatesOf words) (f .place)) (f .line) ≡ true

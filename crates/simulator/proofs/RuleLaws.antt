@@ -116,6 +116,22 @@ module _ (n : ℕ) (gs : List Gate) (f : Fault) where
       let v = and-both (ltb (f .line) n) _ (w .1) in
       (p .0, p .1, ltb-true _ _ (v .0), not-true _ (and-both (not (isControl (gateAt gs (f .place)) (f .line))) _ (v .1) .0))
 
+  -- the value of a gate fault is 0
+  pub missing-gate-value : isMissingGate gs f ≡ true → f .value ≡ 0
+  unfolding isMissingGate
+  missing-gate-value t = eqb-true (f .value) 0 (and-both (eqb (f .line) 0) _ (and-both (isGate gs (f .place)) _ t .1) .1)
+
+  pub missing-control-value : isMissingControl gs f ≡ true → f .value ≡ 0
+  unfolding isMissingControl
+  missing-control-value t = eqb-true (f .value) 0 (and-both (isControl (gateAt gs (f .place)) (f .line)) _ (and-both (isGate gs (f .place)) _ t .1) .1)
+
+  pub extra-control-value : isExtraControl n gs f ≡ true → f .value ≡ 0
+  unfolding isExtraControl
+  extra-control-value t =
+      let w = and-both (ltb (f .line) n) _ (and-both (isGate gs (f .place)) _ t .1) in
+      let v = and-both (not (isControl (gateAt gs (f .place)) (f .line))) _ (w .1) in
+      eqb-true (f .value) 0 (and-both (not (eqb (f .line) (gateAt gs (f .place) .target))) _ (v .1) .1)
+
 -- ---- rule 9 by the test of the class
 
 pub nine : (n : ℕ) (words : List ℕ) (f : Fault) (holds : Bool) → holds ≡ isFault n (gatesOf words) f

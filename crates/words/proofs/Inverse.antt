@@ -1,6 +1,6 @@
 -- Laws of a word with all its lines inverted.
 use Prim.Native.Nat.{ℕ, _-_, _^_, _<_}
-use mathlib.Core.Path.{_≡_, ap, _∙_}
+use mathlib.Core.Path.{_≡_, refl, ap, _∙_}
 use mathlib.Core.Bool.{not}
 use native.Mathlib.Nat.{mod-eq-of-lt}
 use native.Mathlib.Omega.{arith}
@@ -39,3 +39,8 @@ inverse-is-rest n s h = omega (arith, xor-add-and s (2 ^ n - 1), and-mask s n, m
 pub inverse-of-zero : (n : ℕ) → inverse n 0 ≡ allOnes n
 unfolding inverse
 inverse-of-zero n = xor-zero-l (allOnes n)
+
+-- as code inverts, by the word of n ones
+pub inverse-code : (n s : ℕ) → bitXor s (allOnes n) ≡ inverse n s
+unfolding inverse
+inverse-code n s = refl

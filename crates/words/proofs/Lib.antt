@@ -9,3 +9,4 @@ pub mod LineLists
 pub mod WordOfLaws
 pub mod OrLaws
 pub mod LoneLaws
+pub mod LowestLaws

@@ -2,7 +2,8 @@
 ghost use mathlib.Core.Path.{_≡_};
 ghost use Prim.Native.Nat.{_<_, _≤_, _^_};
 ghost use lib.Dec.{ltb};
-ghost use Rattle.words.specs.Word.{bit, flip, force, allOnes};
+ghost use lib.ListN.{getD};
+ghost use Rattle.words.specs.Word.{bit, flip, force, allOnes, linesOn};
 
 // The value of a line.
 pub fn value(word: u32, line: u32) -> u32
@@ -46,4 +47,12 @@ pub fn below(word: u32, lines: u32) -> bool
     ensures { λ r. ⌜ r ≡ ltb word (2 ^ lines) ⌝ }
 {
     (word as u64) < (1u64 << lines)
+}
+
+// The lowest line of a word that is 1.
+pub fn lowest(word: u32) -> u32
+    requires { ⌜ (word ≡ 0 → ⊥) ⌝ }
+    ensures { λ r. ⌜ r ≡ getD (linesOn 32 word) 0 0 ⌝ }
+{
+    u32::trailing_zeros(word)
 }

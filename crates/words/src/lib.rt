@@ -2,6 +2,7 @@
 ghost use mathlib.Core.Path.{_≡_};
 ghost use lib.ListN.{length};
 ghost use Rattle.words.specs.Word.{linesOn};
+ghost use Rattle.words.specs.WordOf.{lacking, loneZero};
 
 pub mod checked;
 
@@ -10,4 +11,19 @@ pub fn ones(word: u32) -> u32
     ensures { λ r. ⌜ r ≡ length (linesOn 32 word) ⌝ }
 {
     u32::count_ones(word)
+}
+
+// The lines of a mask that are 0 in a word.
+pub fn lacking(mask: u32, word: u32) -> u32
+    ensures { λ r. ⌜ r ≡ lacking mask word ⌝ }
+{
+    (word & mask) ^ mask
+}
+
+// The one line of a mask that is 0 where all its others are 1, as a word; and 0 where there is none.
+pub fn lone_zero(mask: u32, word: u32) -> u32
+    ensures { λ r. ⌜ r ≡ loneZero mask word ⌝ }
+{
+    let lacks = (word & mask) ^ mask;
+    if u32::count_ones(lacks) == 1 { lacks } else { 0 }
 }

@@ -1,0 +1,13 @@
+-- `circuit::checked::control_lines` meets its contract: the mask has just the controls. Assumes nothing.
+use Rattle.circuit.proofs.LineLaws.{controls-word}
+use Rattle.circuit.proofs.checked.control_lines.Statement.{statement}
+use Rattle.circuit.proofs.checked.control_lines.Tie as tie
+use Rattle.circuit.proofs.checked.control_lines.Reads as reads
+use Rattle.circuit.proofs.checked.control_lines.Lts as lts
+
+-- src/checked.rt:46:1
+returns : tie.Need-returns
+returns c = controls-word _ _ (c .pre)
+
+pub control-lines-spec : {M : Type 1} → statement M
+control-lines-spec = tie.close (tie.spec returns)

@@ -1,0 +1,79 @@
+-- Laws of verdicts: what is left and what is caught, of any list of faults and any vectors.
+use Prim.Native.Nat.{ℕ, _+_}
+use mathlib.Core.Path.{_≡_, refl, sym, ap, _∙_, subst}
+use mathlib.Core.Logic.{_↔_}
+use mathlib.Core.Bool.{true, false, not, _||_}
+use mathlib.Core.List.{List, [], _∷_, _++_, List·Memᴰ, List·Memᴰ·head, Memᴰ·append-right}
+use lib.ListN.{length}
+use borrow.Author.Tests.{not-true, not-false}
+use Rattle.basics.specs.Lists.{All}
+use Rattle.basics.proofs.Tests.{or-left}
+use Rattle.basics.proofs.All.{all-map}
+use Rattle.basics.proofs.Lists.{keep-parts, keep-cong, keep-none, none-kept, some-entry, entry-some}
+use Rattle.basics.proofs.ListMore.{some-append, some-same, first-kept}
+use Rattle.circuit.specs.declared.Gate.{Gate}
+use Rattle.simulator.specs.Faults.{caught}
+use Rattle.simulator.specs.declared.Fault.{Fault}
+use Rattle.judge.specs.Judging.{caughtBySome, caughtOf, left}
+
+-- two sets that have the same vectors, in any order and any number of times
+abbrev pub SameVectors : List ℕ → List ℕ → Type 0
+SameVectors xs ys = ((x : ℕ) → List·Memᴰ x xs → List·Memᴰ x ys) × ((x : ℕ) → List·Memᴰ x ys → List·Memᴰ x xs)
+
+-- ---- one fault
+
+module _ (gs : List Gate) (xs : List ℕ) (f : Fault) where
+  pub some-catches : caughtBySome gs xs f ≡ true → (x : ℕ) × List·Memᴰ x xs × (caught gs f x ≡ true)
+  unfolding caughtBySome
+  some-catches e = some-entry (caught gs f) xs e
+
+  pub catches-some : (x : ℕ) → List·Memᴰ x xs → caught gs f x ≡ true → caughtBySome gs xs f ≡ true
+  unfolding caughtBySome
+  catches-some x m e = entry-some (caught gs f) m e
+
+  -- more vectors catch no less
+  pub caught-joined : (ys : List ℕ) → caughtBySome gs (xs ++ ys) f ≡ (caughtBySome gs xs f || caughtBySome gs ys f)
+  unfolding caughtBySome
+  caught-joined ys = some-append (caught gs f) xs ys
+
+  pub caught-more : (ys : List ℕ) → caughtBySome gs xs f ≡ true → caughtBySome gs (xs ++ ys) f ≡ true
+  caught-more ys e = caught-joined ys ∙ or-left (caughtBySome gs ys f) e
+
+  -- order and repeats change nothing
+  pub caught-same : (ys : List ℕ) → SameVectors xs ys → caughtBySome gs xs f ≡ caughtBySome gs ys f
+  unfolding caughtBySome
+  caught-same ys same = some-same (caught gs f) xs ys (same .0) (same .1)
+
+-- ---- a list of faults
+
+module _ (gs : List Gate) (xs : List ℕ) (fs : List Fault) where
+  -- nothing is left where every fault is caught by some vector, and only there
+  pub complete-iff : (left gs xs fs ≡ []) ↔ All (λ f. (x : ℕ) × List·Memᴰ x xs × (caught gs f x ≡ true)) fs
+  unfolding left
+  complete-iff = (
+    λ e. all-map (λ f h. some-catches gs xs f (not-false (caughtBySome gs xs f) h)) fs (none-kept (λ f. not (caughtBySome gs xs f)) fs e),
+    λ w. keep-none (λ f. not (caughtBySome gs xs f)) fs (all-map (λ f h. ap not (catches-some gs xs f (h .0) (h .1) (h .2))) fs w),
+  )
+
+  -- the first fault that is left: one of the list, which no vector catches, and every fault before it is caught
+  pub first-left : (f : Fault) (rest : List Fault) → left gs xs fs ≡ f ∷ rest
+      → List·Memᴰ f fs × (caughtBySome gs xs f ≡ false)
+      × ((before : List Fault) × (after : List Fault) × (fs ≡ before ++ (f ∷ after)) × All (λ h. caughtBySome gs xs h ≡ true) before)
+  unfolding left
+  first-left f rest e =
+      let r = first-kept (λ h. not (caughtBySome gs xs h)) fs f rest e in
+      let member = subst (List·Memᴰ f) (sym (r .parts)) (Memᴰ·append-right (r .before) (List·Memᴰ·head refl)) in
+      (member, not-true (caughtBySome gs xs f) (r .passes), (r .before, r .after, r .parts, all-map (λ h. not-false (caughtBySome gs xs h)) (r .before) (r .failed)))
+
+  -- what is caught and what is left are all
+  pub verdict-parts : length (caughtOf gs xs fs) + length (left gs xs fs) ≡ length fs
+  unfolding caughtOf left
+  verdict-parts = keep-parts (caughtBySome gs xs) fs
+
+  pub caught-of-same : (ys : List ℕ) → SameVectors xs ys → caughtOf gs xs fs ≡ caughtOf gs ys fs
+  unfolding caughtOf
+  caught-of-same ys same = keep-cong (λ f. caught-same gs xs f ys same) fs
+
+  pub left-same : (ys : List ℕ) → SameVectors xs ys → left gs xs fs ≡ left gs ys fs
+  unfolding left
+  left-same ys same = keep-cong (λ f. ap not (caught-same gs xs f ys same)) fs

@@ -1,0 +1,37 @@
+-- `judge::rules::check_class` meets its contract: 1 to 4 are the classes, and every other number is none. Assumes nothing.
+use Prim.Native.Nat.{ℕ}
+use mathlib.Core.Path.{_≡_}
+use native.Mathlib.Omega.{arith}
+use borrow.Author.Tests.{le-leb, lt-leb}
+use Rattle.judge.specs.Classes.{isClass}
+use Rattle.judge.specs.Rules.{classRows}
+use Rattle.judge.proofs.rules.check_class.Statement.{statement}
+use Rattle.judge.proofs.rules.check_class.Tie as tie
+use Rattle.judge.proofs.rules.check_class.Reads as reads
+use Rattle.judge.proofs.rules.check_class.Lts as lts
+
+-- src/rules.rt:13:1
+returns : tie.Need-returns
+unfolding classRows isClass
+returns c =
+    let a = c .before .before .args in
+    let some : a .class ≡ 0 → ⊥ = c .before .match .rest .1 in
+    rw (le-leb 1 (a .class) (omega arith), le-leb (a .class) 4 (omega arith))
+
+-- src/rules.rt:13:1
+returns-2 : tie.Need-returns-2
+unfolding classRows isClass
+returns-2 c =
+    let a = c .before .args in
+    let zero : a .class ≡ 0 = c .match .keys1 in
+    rw (lt-leb 1 (a .class) (omega arith))
+
+-- src/rules.rt:13:1
+returns-3 : tie.Need-returns-3
+unfolding classRows isClass
+returns-3 c =
+    let a = c .before .before .args in
+    rw (le-leb 1 (a .class) (omega arith), lt-leb (a .class) 4 (omega arith))
+
+pub check-class-spec : {M : Type 1} → statement M
+check-class-spec = tie.close (tie.spec returns returns-2 returns-3)

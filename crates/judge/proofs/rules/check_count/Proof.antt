@@ -1,0 +1,55 @@
+-- `judge::rules::check_count` meets its contract: the class comes last. Assumes nothing.
+use mathlib.Core.Path.{ap, sym, _∙_}
+use Rattle.refusals.specs.Checks.{fine, found}
+use Rattle.refusals.proofs.Tables.{refused-on, fine-on}
+use Rattle.circuit.specs.Rules.{circuitRows}
+use Rattle.judge.specs.Rules.{classRows, countRows}
+use borrow.Author.Needs.{needs}
+use Rattle.judge.proofs.rules.check_count.Statement.{statement}
+use Rattle.judge.proofs.rules.check_count.Tie as tie
+use Rattle.judge.proofs.rules.check_count.Reads as reads
+use Rattle.judge.proofs.rules.check_count.Lts as lts
+use Rattle.circuit.proofs.rules.check_circuit.Reads as check-circuit-reads
+use Rattle.judge.proofs.rules.check_class.Reads as check-class-reads
+
+-- src/rules.rt:36:11
+check-circuit-requires : tie.Need-check-circuit-requires
+check-circuit-requires c κs = search needs
+
+-- src/rules.rt:37:24
+enum-known-refusal : tie.Need-enum-known-refusal
+enum-known-refusal c = search needs
+
+-- src/rules.rt:38:26
+enum-told : tie.Need-enum-told
+enum-told c = search needs
+
+-- src/rules.rt:38:26
+check-class-requires : tie.Need-check-class-requires
+check-class-requires c κs = search needs
+
+-- src/rules.rt:33:1
+returns : tie.Need-returns
+unfolding countRows
+returns c =
+    let a = c .before .before .before .before .before .args in
+    refused-on (circuitRows (a .lines) (a .gates .now)) (classRows (a .class)) fine _ _ (ap found (sym (c .before .refusal .given .1)) ∙ c .before .before .before .check-circuit .ensures)
+
+-- src/rules.rt:33:1
+returns-2 : tie.Need-returns-2
+unfolding countRows
+returns-2 c =
+    let a = c .before .before .before .before .before .args in
+    let passed = ap found (sym (c .before .enum-told .given .1)) ∙ c .before .before .before .check-circuit .ensures in
+    c .check-class .ensures ∙ sym (fine-on (circuitRows (a .lines) (a .gates .now)) (classRows (a .class)) fine passed)
+
+pub check-count-spec : {M : Type 1} → statement M
+check-count-spec =
+    tie.close
+    (tie.spec
+    check-circuit-requires
+    enum-known-refusal
+    enum-told
+    check-class-requires
+    returns
+    returns-2)

@@ -1,0 +1,43 @@
+// Judging: coverage so far, and the verdict on a set of vectors for a class.
+ghost use mathlib.Core.Path.{_≡_};
+ghost use Rattle.refusals.specs.Tables.{firstOf};
+ghost use Rattle.circuit.specs.Gates.{gatesOf};
+ghost use Rattle.judge.specs.Classes.{classFaults};
+ghost use Rattle.judge.specs.Judging.{caughtBySome, verdict};
+ghost use Rattle.judge.specs.Rules.{judgeRows};
+ghost use Rattle.judge.specs.Answers.{toldVerdict};
+
+use refusals::Checked;
+use refusals::Refusal;
+use simulator::Fault;
+
+pub mod coverage;
+pub mod marks;
+pub mod rules;
+pub mod sets;
+pub mod tallies;
+
+// The verdict on a set for a class.
+pub enum Verdict {
+    Complete { caught: u32, total: u32 },
+    Left { caught: u32, total: u32, first: Fault },
+    Refused(Refusal),
+}
+
+// The first uncaught fault of a class, if there is one.
+pub enum First {
+    None,
+    Uncaught(Fault),
+}
+
+// Judges a set for a class: how many of its faults some vector catches, how many there are, and the first that none catches.
+pub fn judge(lines: u32, gates: &[u32], vectors: &[u32], class: u32) -> Verdict
+    ensures { λ r. ⌜ toldVerdict r ≡ firstOf
+        (judgeRows lines (now (gates .entry)) (now (vectors .entry)) class)
+        (verdict (caughtBySome (gatesOf (now (gates .entry))) (now (vectors .entry))) (classFaults lines (gatesOf (now (gates .entry))) class)) ⌝ }
+{
+    match rules::check_judge(lines, gates, vectors, class) {
+        Checked::Wrong(refusal) => Verdict::Refused(refusal),
+        Checked::Fine => sets::judge_class(lines, gates, vectors, class),
+    }
+}
