@@ -4,14 +4,23 @@ use mathlib.Core.Bool.{Bool, true, false, _&&_}
 use mathlib.Core.List.{List, [], _∷_}
 use lib.Dec.{eqb}
 use Rattle.basics.specs.Lists.{upFrom, keep}
+use Rattle.refusals.specs.Tables.{Told}
+use Rattle.refusals.specs.Tables.Told.{answered, refused}
 use Rattle.circuit.specs.Runs.{forward, backward}
 use Rattle.simulator.specs.Faults.{caught}
 use Rattle.simulator.specs.declared.Fault.{Fault}
+use Rattle.judge.specs.Classes.{classFaults}
+use Rattle.judge.specs.Judging.{caughtBySome, verdict}
 use Rattle.bench.specs.Sample.{sample}
 
 infix 68 _gives_
 pub data Row : Type 0 where
   _gives_ : List ℕ → List ℕ → Row
+
+-- the values that a call tells
+abbrev pub values : Told → List ℕ
+values (answered vs) = vs
+values (refused number place) = []
 
 -- the states of an input at levels 0, 1 and 2
 unfoldable pub levels : ℕ → List ℕ
@@ -20,6 +29,10 @@ levels x = forward sample 0 x ∷ forward sample 1 x ∷ forward sample 2 x ∷ 
 -- the inputs that catch a fault
 unfoldable pub catching : Fault → List ℕ
 catching f = keep (caught sample f) (upFrom 0 8)
+
+-- the verdict on a set for class 1: number caught, number in the class, complete, first uncaught fault
+unfoldable pub judged : List ℕ → List ℕ
+judged xs = values (verdict (caughtBySome sample xs) (classFaults 3 sample 1))
 
 unfoldable pub table : List Row
 table =
@@ -34,7 +47,10 @@ table =
     -- gate 1 missing; gate 1 without control 0; gate 2 with extra line 2
     catching (record { class = 2; place = 1; line = 0; value = 0 }) gives (3 ∷ 7 ∷ []) ∷
     catching (record { class = 3; place = 1; line = 0; value = 0 }) gives (2 ∷ 6 ∷ []) ∷
-    catching (record { class = 4; place = 2; line = 2; value = 0 }) gives (1 ∷ 7 ∷ []) ∷ []
+    catching (record { class = 4; place = 2; line = 2; value = 0 }) gives (1 ∷ 7 ∷ []) ∷
+    -- sets that are not stuck-at complete, and the first fault that they leave
+    judged (0 ∷ 7 ∷ []) gives (15 ∷ 18 ∷ 0 ∷ 1 ∷ 1 ∷ 2 ∷ 0 ∷ []) ∷
+    judged (0 ∷ 7 ∷ 3 ∷ []) gives (17 ∷ 18 ∷ 0 ∷ 1 ∷ 2 ∷ 1 ∷ 0 ∷ []) ∷ []
 
 -- every row gives what it says
 abbrev pub same : List ℕ → List ℕ → Bool

@@ -9,3 +9,8 @@ pub mod CoverLaws
 pub mod MeanLaws
 pub mod TurnLaws
 pub mod SetLaws
+pub mod TallyLaws
+pub mod FirstLaws
+pub mod RuleLaws
+pub mod AnswerLaws
+pub mod Theorems

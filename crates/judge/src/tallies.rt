@@ -15,7 +15,6 @@ ghost use Rattle.judge.specs.Coverages.{levelMarked, gateMarked};
 ghost use Rattle.judge.specs.Judging.{firstTold, verdict};
 ghost use Rattle.judge.specs.Tallies.{gateLines};
 ghost use Rattle.judge.specs.Answers.{toldVerdict, toldFirst};
-
 use crate::First;
 use crate::Verdict;
 use circuit::checked::control_lines;
@@ -80,11 +79,21 @@ fn first_at_level(level: u32, left_0: u32, left_1: u32) -> Fault
 {
     let line = words::checked::lowest(left_0 | left_1);
     let value = 1 - words::checked::value(left_0, line);
-    Fault { class: 1, place: level, line, value }
+    Fault {
+        class: 1,
+        place: level,
+        line,
+        value,
+    }
 }
 
 // The first unmarked fault of class 1.
-fn first_levels<'a>(lines: u32, gates: &[u32], at_0: &'a [u32; 1025], at_1: &'a [u32; 1025]) -> First
+fn first_levels<'a>(
+    lines: u32,
+    gates: &[u32],
+    at_0: &'a [u32; 1025],
+    at_1: &'a [u32; 1025],
+) -> First
     requires { ⌜ Sound lines (now gates) ⌝ }
     ensures { λ r. ⌜ toldFirst r ≡ firstTold (keep (λ f. not (levelMarked (now (at_0 .entry)) (now (at_1 .entry)) f)) (stuckFaults lines (gatesOf (now (gates .entry))))) ⌝ }
 {
@@ -143,9 +152,17 @@ fn first_gates(class: u32, lines: u32, gates: &[u32], marks: &[u32; 1024]) -> Fi
     let end = gates.len() / 3;
     let mut i = 0;
     while i < end {
-        let left = words::lacking(gate_lines(class, lines, gates, numbers::gate(i + 1)), marks[i]);
+        let left = words::lacking(
+            gate_lines(class, lines, gates, numbers::gate(i + 1)),
+            marks[i],
+        );
         if left != 0 {
-            return First::Uncaught(Fault { class, place: (i + 1) as u32, line: words::checked::lowest(left), value: 0 });
+            return First::Uncaught(Fault {
+                class,
+                place: (i + 1) as u32,
+                line: words::checked::lowest(left),
+                value: 0,
+            });
         }
         i += 1;
     }
@@ -158,12 +175,21 @@ fn verdict_of(caught: u32, total: u32, first: First) -> Verdict
 {
     match first {
         First::None => Verdict::Complete { caught, total },
-        First::Uncaught(fault) => Verdict::Left { caught, total, first: fault },
+        First::Uncaught(fault) => Verdict::Left {
+            caught,
+            total,
+            first: fault,
+        },
     }
 }
 
 // The verdict on marks for class 1.
-pub fn tally_levels<'a>(lines: u32, gates: &[u32], at_0: &'a [u32; 1025], at_1: &'a [u32; 1025]) -> Verdict
+pub fn tally_levels<'a>(
+    lines: u32,
+    gates: &[u32],
+    at_0: &'a [u32; 1025],
+    at_1: &'a [u32; 1025],
+) -> Verdict
     requires { ⌜ Sound lines (now gates) ⌝ }
     ensures { λ r. ⌜ toldVerdict r ≡ verdict (levelMarked (now (at_0 .entry)) (now (at_1 .entry))) (stuckFaults lines (gatesOf (now (gates .entry)))) ⌝ }
 {

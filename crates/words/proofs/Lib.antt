@@ -10,3 +10,4 @@ pub mod WordOfLaws
 pub mod OrLaws
 pub mod LoneLaws
 pub mod LowestLaws
+pub mod AndLaws

@@ -3,14 +3,10 @@ use borrow.Author.Needs.{needs}
 use Rattle.words.proofs.LoneLaws.{lone-one, lone-none}
 use Rattle.words.proofs.lone_zero.Statement.{statement}
 use Rattle.words.proofs.lone_zero.Tie as tie
-use Rattle.words.proofs.lone_zero.Reads as reads
-use Rattle.words.proofs.lone_zero.Lts as lts
 
--- src/lib.rt:24:1
 returns : tie.Need-returns
 returns c = lone-one (c .before .args .mask) (c .before .args .word) (search needs) (c .if1 .taken)
 
--- src/lib.rt:24:1
 returns-2 : tie.Need-returns-2
 returns-2 c = lone-none (c .before .args .mask) (c .before .args .word) (search needs) (c .if1 .left)
 

@@ -2,10 +2,7 @@
 use Rattle.circuit.proofs.LineLaws.{controls-word}
 use Rattle.circuit.proofs.checked.control_lines.Statement.{statement}
 use Rattle.circuit.proofs.checked.control_lines.Tie as tie
-use Rattle.circuit.proofs.checked.control_lines.Reads as reads
-use Rattle.circuit.proofs.checked.control_lines.Lts as lts
 
--- src/checked.rt:46:1
 returns : tie.Need-returns
 returns c = controls-word _ _ (c .pre)
 

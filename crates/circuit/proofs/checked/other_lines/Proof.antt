@@ -4,20 +4,13 @@ use Rattle.circuit.proofs.LineLaws.{others-code}
 use borrow.Author.Needs.{needs}
 use Rattle.circuit.proofs.checked.other_lines.Statement.{statement}
 use Rattle.circuit.proofs.checked.other_lines.Tie as tie
-use Rattle.circuit.proofs.checked.other_lines.Reads as reads
-use Rattle.circuit.proofs.checked.other_lines.Lts as lts
-use Rattle.words.proofs.checked.all_ones.Reads as all-ones-reads
-use Rattle.words.proofs.checked.flip.Reads as flip-reads
 
--- src/checked.rt:58:42
 all-ones-requires : tie.Need-all-ones-requires
 all-ones-requires c κs = search needs
 
--- src/checked.rt:58:5
 flip-requires : tie.Need-flip-requires
 flip-requires c κs = search needs
 
--- src/checked.rt:54:1
 returns : tie.Need-returns
 returns c =
     let a = c .before .before .before .args in

@@ -10,20 +10,13 @@ use Rattle.circuit.proofs.RuleLaws.{circuit-set-ok, first-vector-le}
 use borrow.Author.Needs.{needs}
 use Rattle.circuit.proofs.rules.check_set.Statement.{statement}
 use Rattle.circuit.proofs.rules.check_set.Tie as tie
-use Rattle.circuit.proofs.rules.check_set.Reads as reads
-use Rattle.circuit.proofs.rules.check_set.Lts as lts
-use Rattle.circuit.proofs.rules.check_circuit_set.Reads as check-circuit-set-reads
-use Rattle.circuit.proofs.rules.first_bad_vector.Reads as first-bad-vector-reads
 
--- src/rules.rt:100:38
 check-circuit-set-requires : tie.Need-check-circuit-set-requires
 check-circuit-set-requires c κs = search needs
 
--- src/rules.rt:100:27
 enum-known-refusal : tie.Need-enum-known-refusal
 enum-known-refusal c = search needs
 
--- src/rules.rt:101:9
 returns : tie.Need-returns
 unfolding setRows
 returns c =
@@ -33,14 +26,12 @@ returns c =
 enum-told : tie.Need-enum-told
 enum-told c = search needs
 
--- src/rules.rt:103:9
 first-bad-vector-requires : tie.Need-first-bad-vector-requires
 first-bad-vector-requires c κs =
     let a = c .before .before .before .before .before .args in
     let ok = circuit-set-ok (a .lines) (a .gates .now) (length (a .vectors .now)) (ap found (sym (c .enum-told .given .1)) ∙ c .before .before .check-circuit-set .ensures) in
     omega arith
 
--- src/rules.rt:105:59
 cast-t9 : tie.Need-cast-t9
 cast-t9 c =
     let a = c .before .before .before .before .before .before .before .args in
@@ -48,7 +39,6 @@ cast-t9 c =
     let small = first-vector-le (a .lines) (a .vectors .now) in
     record { fits = omega arith }
 
--- src/rules.rt:105:9
 returns-2 : tie.Need-returns-2
 unfolding setRows
 returns-2 c =
@@ -56,7 +46,6 @@ returns-2 c =
     let passed = ap found (sym (c .before .before .enum-told .given .1)) ∙ c .before .before .before .before .check-circuit-set .ensures in
     sym (fine-on (circuitSetRows (a .lines) (a .gates .now) (length (a .vectors .now))) _ fine passed ∙ rw (← c .before .first-bad-vector .ensures, ne-eqb _ _ (c .if1 .taken)))
 
--- src/rules.rt:97:1
 returns-3 : tie.Need-returns-3
 unfolding setRows
 returns-3 c =

@@ -12,9 +12,6 @@ use Rattle.refusals.proofs.Places.{bad-found, bad-passed, bad-end}
 use Rattle.circuit.specs.Rules.{firstBadVector}
 use Rattle.circuit.proofs.rules.first_bad_vector.Statement.{statement}
 use Rattle.circuit.proofs.rules.first_bad_vector.Tie as tie
-use Rattle.circuit.proofs.rules.first_bad_vector.Reads as reads
-use Rattle.circuit.proofs.rules.first_bad_vector.Lts as lts
-use Rattle.words.proofs.checked.below.Reads as below-reads
 
 abbrev Inv-loop : tie.InvT-loop
 Inv-loop lines vectors i₀ i = firstBadVector lines vectors ≡ firstBadFrom (leb (2 ^ lines)) false (i + 1) (drop i vectors)
@@ -22,28 +19,22 @@ Inv-loop lines vectors i₀ i = firstBadVector lines vectors ≡ firstBadFrom (l
 abbrev μ-loop : tie.MeasureT-loop
 μ-loop lines vectors i₀ i = length vectors - i
 
--- src/rules.rt:87:5
 loop-holds : tie.Need-loop-holds Inv-loop μ-loop
 unfolding firstBadVector
 loop-holds c = refl
 
--- src/rules.rt:88:35
 mul-below : tie.Need-mul-below Inv-loop μ-loop
 mul-below c = omega arith
 
--- src/rules.rt:88:35
 shared-slice-read-below : tie.Need-shared-slice-read-below Inv-loop μ-loop
 shared-slice-read-below c = omega arith
 
--- src/rules.rt:88:13
 below-requires : tie.Need-below-requires Inv-loop μ-loop
 below-requires c κs = search needs
 
--- src/rules.rt:89:20
 add-result : tie.Need-add-result Inv-loop μ-loop
 add-result c = omega arith
 
--- src/rules.rt:89:13
 returns : tie.Need-returns Inv-loop μ-loop
 returns c =
     let l = c .before .before .before .before in
@@ -51,15 +42,12 @@ returns c =
     let over = le-leb (2 ^ (a .lines)) (getD (a .vectors .now) (l .loop .i) 0) (ltb-false _ _ (sym (c .before .below .ensures) ∙ not-true _ (c .if1 .taken))) in
     sym (l .loop .inv ∙ bad-found (leb (2 ^ (a .lines))) false (a .vectors .now) (l .loop .i) 0 (omega arith) over)
 
--- src/rules.rt:91:9
 add-i : tie.Need-add-i Inv-loop μ-loop
 add-i c = omega arith
 
--- src/rules.rt:87:5
 loop-less : tie.Need-loop-less Inv-loop μ-loop
 loop-less c = omega arith
 
--- src/rules.rt:87:5
 loop-again : tie.Need-loop-again Inv-loop μ-loop
 loop-again c =
     let l = c .before .before .before .before in
@@ -67,7 +55,6 @@ loop-again c =
     let fits = lt-leb (2 ^ (a .lines)) (getD (a .vectors .now) (l .loop .i) 0) (ltb-true _ _ (sym (c .before .below .ensures) ∙ not-false _ (c .if1 .left))) in
     l .loop .inv ∙ bad-passed (leb (2 ^ (a .lines))) false (a .vectors .now) (l .loop .i) 0 (omega arith) fits
 
--- src/rules.rt:82:1
 returns-2 : tie.Need-returns-2 Inv-loop μ-loop
 returns-2 c =
     let l = c .before in

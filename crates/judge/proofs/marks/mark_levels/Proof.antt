@@ -17,13 +17,6 @@ use Rattle.judge.proofs.CoverLaws.{level-marks-length}
 use Rattle.judge.proofs.TurnLaws.{mark-none, mark-turn, mark-done, level-word-0, level-word-1, next-state}
 use Rattle.judge.proofs.marks.mark_levels.Statement.{statement}
 use Rattle.judge.proofs.marks.mark_levels.Tie as tie
-use Rattle.judge.proofs.marks.mark_levels.Reads as reads
-use Rattle.judge.proofs.marks.mark_levels.Lts as lts
-use Rattle.circuit.proofs.checked.gate_at.Reads as gate-at-reads
-use Rattle.circuit.proofs.checked.step.Reads as step-reads
-use Rattle.circuit.proofs.numbers.gate_after.Reads as gate-after-reads
-use Rattle.circuit.proofs.numbers.level.Reads as level-reads
-use Rattle.words.proofs.checked.all_ones.Reads as all-ones-reads
 
 abbrev Inv-loop : tie.InvT-loop
 Inv-loop at-0₀ at-1₀ lines gates vector ones end state₀ i₀ at-0 at-1 state i = (end ≡ length (gatesOf gates)) × ((i ≤ end) × ((state ≡ forward (gatesOf gates) i vector) × ((at-0 ≡ marked at-0₀ (take i (levelMarks lines (gatesOf gates) 0 vector))) × (at-1 ≡ marked at-1₀ (take i (levelMarks lines (gatesOf gates) 1 vector))))))
@@ -31,53 +24,41 @@ Inv-loop at-0₀ at-1₀ lines gates vector ones end state₀ i₀ at-0 at-1 sta
 abbrev μ-loop : tie.MeasureT-loop
 μ-loop at-0₀ at-1₀ lines gates vector ones end state₀ i₀ at-0 at-1 state i = end - i
 
--- src/marks.rt:24:9
 all-ones-requires : tie.Need-all-ones-requires Inv-loop μ-loop
 all-ones-requires c κs = search needs
 
--- src/marks.rt:28:5
 loop-holds : tie.Need-loop-holds Inv-loop μ-loop
 loop-holds c =
     let a = c .before .before .args in
     (sym (gates-count _), (search needs, (sym (forward-none _ _), (mark-none (a .at-0 .now), mark-none (a .at-1 .now)))))
 
--- src/marks.rt:29:9
 mul-at-0 : tie.Need-mul-at-0 Inv-loop μ-loop
 mul-at-0 c = omega arith
 
--- src/marks.rt:29:9
 element-copy-out-at-0 : tie.Need-element-copy-out-at-0 Inv-loop μ-loop
 element-copy-out-at-0 c = omega arith
 
--- src/marks.rt:29:9
 element-write-at-0 : tie.Need-element-write-at-0 Inv-loop μ-loop
 element-write-at-0 c = omega arith
 
--- src/marks.rt:30:9
 mul-at-1 : tie.Need-mul-at-1 Inv-loop μ-loop
 mul-at-1 c = omega arith
 
--- src/marks.rt:30:9
 element-copy-out-at-1 : tie.Need-element-copy-out-at-1 Inv-loop μ-loop
 element-copy-out-at-1 c = omega arith
 
--- src/marks.rt:30:9
 element-write-at-1 : tie.Need-element-write-at-1 Inv-loop μ-loop
 element-write-at-1 c = omega arith
 
--- src/marks.rt:31:57
 level-requires : tie.Need-level-requires Inv-loop μ-loop
 level-requires c κs = search needs
 
--- src/marks.rt:31:37
 gate-after-requires : tie.Need-gate-after-requires Inv-loop μ-loop
 gate-after-requires c κs = omega arith
 
--- src/marks.rt:31:22
 gate-at-requires : tie.Need-gate-at-requires Inv-loop μ-loop
 gate-at-requires c κs = omega arith
 
--- src/marks.rt:31:9
 step-requires : tie.Need-step-requires Inv-loop μ-loop
 step-requires c κs =
     let l = c .before .before .before .before .before .before in
@@ -86,15 +67,12 @@ step-requires c κs =
     let gs = gatesOf (a .gates .now) in
     rw (c .gate-at .ensures) (target-fits (a .lines) (a .gates .now) _ (start .pre .0) (omega arith) (omega arith))
 
--- src/marks.rt:32:9
 add-i : tie.Need-add-i Inv-loop μ-loop
 add-i c = omega arith
 
--- src/marks.rt:28:5
 loop-less : tie.Need-loop-less Inv-loop μ-loop
 loop-less c = omega arith
 
--- src/marks.rt:28:5
 loop-again : tie.Need-loop-again Inv-loop μ-loop
 loop-again c =
     let l = c .before .before .before .before .before .before .before in
@@ -112,31 +90,24 @@ loop-again c =
     (mark-turn (a .at-0 .now) marks-0 (l .loop .at-0) (l .loop .i) (l .loop .state) (omega arith) (l .loop .inv .1 .1 .1 .0) (level-word-0 (a .lines) (a .gates .now) (a .vector) (l .loop .i) (l .loop .state) (start .pre .0) (start .pre .1) (l .loop .inv .1 .1 .0) (omega arith)),
     mark-turn (a .at-1 .now) marks-1 (l .loop .at-1) (l .loop .i) _ (omega arith) (l .loop .inv .1 .1 .1 .1) (level-word-1 (a .lines) (a .gates .now) (a .vector) (l .loop .i) (l .loop .state) (start .pre .0) (start .pre .1) (l .loop .inv .1 .1 .0) _ ones (omega arith))))))
 
--- src/marks.rt:34:5
 mul-at-0-2 : tie.Need-mul-at-0-2 Inv-loop μ-loop
 mul-at-0-2 c = omega arith
 
--- src/marks.rt:34:5
 element-copy-out-at-0-2 : tie.Need-element-copy-out-at-0-2 Inv-loop μ-loop
 element-copy-out-at-0-2 c = omega arith
 
--- src/marks.rt:34:5
 element-write-at-0-2 : tie.Need-element-write-at-0-2 Inv-loop μ-loop
 element-write-at-0-2 c = omega arith
 
--- src/marks.rt:35:5
 mul-at-1-2 : tie.Need-mul-at-1-2 Inv-loop μ-loop
 mul-at-1-2 c = omega arith
 
--- src/marks.rt:35:5
 element-copy-out-at-1-2 : tie.Need-element-copy-out-at-1-2 Inv-loop μ-loop
 element-copy-out-at-1-2 c = omega arith
 
--- src/marks.rt:35:5
 element-write-at-1-2 : tie.Need-element-write-at-1-2 Inv-loop μ-loop
 element-write-at-1-2 c = omega arith
 
--- src/marks.rt:18:1
 returns : tie.Need-returns Inv-loop μ-loop
 returns c =
     let l = c .before .before .before in

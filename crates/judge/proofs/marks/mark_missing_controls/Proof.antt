@@ -16,13 +16,6 @@ use Rattle.judge.proofs.CoverLaws.{gate-marks-length}
 use Rattle.judge.proofs.TurnLaws.{mark-none, mark-turn, mark-done, next-state, lone-word}
 use Rattle.judge.proofs.marks.mark_missing_controls.Statement.{statement}
 use Rattle.judge.proofs.marks.mark_missing_controls.Tie as tie
-use Rattle.judge.proofs.marks.mark_missing_controls.Reads as reads
-use Rattle.judge.proofs.marks.mark_missing_controls.Lts as lts
-use Rattle.circuit.proofs.checked.gate_at.Reads as gate-at-reads
-use Rattle.circuit.proofs.checked.step.Reads as step-reads
-use Rattle.circuit.proofs.numbers.gate_after.Reads as gate-after-reads
-use Rattle.circuit.proofs.numbers.level.Reads as level-reads
-use Rattle.words.proofs.lone_zero.Reads as lone-zero-reads
 
 abbrev Inv-loop : tie.InvT-loop
 Inv-loop marks₀ lines gates vector end state₀ i₀ marks state i = (end ≡ length (gatesOf gates)) × ((i ≤ end) × ((state ≡ forward (gatesOf gates) i vector) × (marks ≡ marked marks₀ (take i (gateMarks lines (gatesOf gates) 3 vector)))))
@@ -30,41 +23,32 @@ Inv-loop marks₀ lines gates vector end state₀ i₀ marks state i = (end ≡ 
 abbrev μ-loop : tie.MeasureT-loop
 μ-loop marks₀ lines gates vector end state₀ i₀ marks state i = end - i
 
--- src/marks.rt:72:5
 loop-holds : tie.Need-loop-holds Inv-loop μ-loop
 loop-holds c =
     let a = c .before .args in
     (sym (gates-count _), (search needs, (sym (forward-none _ _), mark-none (a .marks .now))))
 
--- src/marks.rt:73:55
 level-requires : tie.Need-level-requires Inv-loop μ-loop
 level-requires c κs = search needs
 
--- src/marks.rt:73:35
 gate-after-requires : tie.Need-gate-after-requires Inv-loop μ-loop
 gate-after-requires c κs = omega arith
 
--- src/marks.rt:73:13
 gate-at-requires : tie.Need-gate-at-requires Inv-loop μ-loop
 gate-at-requires c κs = omega arith
 
--- src/marks.rt:74:21
 lone-zero-requires : tie.Need-lone-zero-requires Inv-loop μ-loop
 lone-zero-requires c κs = search needs
 
--- src/marks.rt:74:9
 mul-marks : tie.Need-mul-marks Inv-loop μ-loop
 mul-marks c = omega arith
 
--- src/marks.rt:74:9
 element-copy-out-marks : tie.Need-element-copy-out-marks Inv-loop μ-loop
 element-copy-out-marks c = omega arith
 
--- src/marks.rt:74:9
 element-write-marks : tie.Need-element-write-marks Inv-loop μ-loop
 element-write-marks c = omega arith
 
--- src/marks.rt:75:9
 step-requires : tie.Need-step-requires Inv-loop μ-loop
 step-requires c κs =
     let l = c .before .before .before .before .before .before in
@@ -73,15 +57,12 @@ step-requires c κs =
     let gs = gatesOf (a .gates .now) in
     rw (c .before .before .gate-at .ensures) (target-fits (a .lines) (a .gates .now) _ (start .pre .0) (omega arith) (omega arith))
 
--- src/marks.rt:76:9
 add-i : tie.Need-add-i Inv-loop μ-loop
 add-i c = omega arith
 
--- src/marks.rt:72:5
 loop-less : tie.Need-loop-less Inv-loop μ-loop
 loop-less c = omega arith
 
--- src/marks.rt:72:5
 loop-again : tie.Need-loop-again Inv-loop μ-loop
 loop-again c =
     let l = c .before .before .before .before .before .before .before in
@@ -95,7 +76,6 @@ loop-again c =
     mark-turn (a .marks .now) (gateMarks (a .lines) gs 3 (a .vector)) (l .loop .marks) (l .loop .i) _ (omega arith) (l .loop .inv .1 .1 .1)
     (c .before .before .lone-zero .ensures ∙ lone-word (a .lines) (a .gates .now) (a .vector) (l .loop .i) (l .loop .state) (start .pre .0) (start .pre .1) (l .loop .inv .1 .1 .0) (c .before .before .before .gate-at .result) gate (omega arith)))))
 
--- src/marks.rt:64:1
 returns : tie.Need-returns Inv-loop μ-loop
 returns c =
     let l = c .before in

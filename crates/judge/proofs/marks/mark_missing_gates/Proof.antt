@@ -16,14 +16,6 @@ use Rattle.judge.proofs.CoverLaws.{gate-marks-length}
 use Rattle.judge.proofs.TurnLaws.{mark-none, mark-turn, mark-done, next-state, fired-word}
 use Rattle.judge.proofs.marks.mark_missing_gates.Statement.{statement}
 use Rattle.judge.proofs.marks.mark_missing_gates.Tie as tie
-use Rattle.judge.proofs.marks.mark_missing_gates.Reads as reads
-use Rattle.judge.proofs.marks.mark_missing_gates.Lts as lts
-use Rattle.circuit.proofs.checked.gate_at.Reads as gate-at-reads
-use Rattle.circuit.proofs.checked.step.Reads as step-reads
-use Rattle.circuit.proofs.numbers.gate_after.Reads as gate-after-reads
-use Rattle.circuit.proofs.numbers.level.Reads as level-reads
-use Rattle.judge.proofs.marks.where_fires.Reads as where-fires-reads
-use Rattle.words.proofs.checked.all_ones.Reads as all-ones-reads
 
 abbrev Inv-loop : tie.InvT-loop
 Inv-loop marks₀ lines gates vector ones end state₀ i₀ marks state i = (end ≡ length (gatesOf gates)) × ((i ≤ end) × ((state ≡ forward (gatesOf gates) i vector) × (marks ≡ marked marks₀ (take i (gateMarks lines (gatesOf gates) 2 vector)))))
@@ -31,45 +23,35 @@ Inv-loop marks₀ lines gates vector ones end state₀ i₀ marks state i = (end
 abbrev μ-loop : tie.MeasureT-loop
 μ-loop marks₀ lines gates vector ones end state₀ i₀ marks state i = end - i
 
--- src/marks.rt:51:9
 all-ones-requires : tie.Need-all-ones-requires Inv-loop μ-loop
 all-ones-requires c κs = search needs
 
--- src/marks.rt:55:5
 loop-holds : tie.Need-loop-holds Inv-loop μ-loop
 loop-holds c =
     let a = c .before .before .args in
     (sym (gates-count _), (search needs, (sym (forward-none _ _), mark-none (a .marks .now))))
 
--- src/marks.rt:56:55
 level-requires : tie.Need-level-requires Inv-loop μ-loop
 level-requires c κs = search needs
 
--- src/marks.rt:56:35
 gate-after-requires : tie.Need-gate-after-requires Inv-loop μ-loop
 gate-after-requires c κs = omega arith
 
--- src/marks.rt:56:13
 gate-at-requires : tie.Need-gate-at-requires Inv-loop μ-loop
 gate-at-requires c κs = omega arith
 
--- src/marks.rt:57:21
 where-fires-requires : tie.Need-where-fires-requires Inv-loop μ-loop
 where-fires-requires c κs = search needs
 
--- src/marks.rt:57:9
 mul-marks : tie.Need-mul-marks Inv-loop μ-loop
 mul-marks c = omega arith
 
--- src/marks.rt:57:9
 element-copy-out-marks : tie.Need-element-copy-out-marks Inv-loop μ-loop
 element-copy-out-marks c = omega arith
 
--- src/marks.rt:57:9
 element-write-marks : tie.Need-element-write-marks Inv-loop μ-loop
 element-write-marks c = omega arith
 
--- src/marks.rt:58:9
 step-requires : tie.Need-step-requires Inv-loop μ-loop
 step-requires c κs =
     let l = c .before .before .before .before .before .before in
@@ -78,15 +60,12 @@ step-requires c κs =
     let gs = gatesOf (a .gates .now) in
     rw (c .before .before .gate-at .ensures) (target-fits (a .lines) (a .gates .now) _ (start .pre .0) (omega arith) (omega arith))
 
--- src/marks.rt:59:9
 add-i : tie.Need-add-i Inv-loop μ-loop
 add-i c = omega arith
 
--- src/marks.rt:55:5
 loop-less : tie.Need-loop-less Inv-loop μ-loop
 loop-less c = omega arith
 
--- src/marks.rt:55:5
 loop-again : tie.Need-loop-again Inv-loop μ-loop
 loop-again c =
     let l = c .before .before .before .before .before .before .before in
@@ -101,7 +80,6 @@ loop-again c =
     mark-turn (a .marks .now) (gateMarks (a .lines) gs 2 (a .vector)) (l .loop .marks) (l .loop .i) _ (omega arith) (l .loop .inv .1 .1 .1)
     (c .before .before .where-fires .ensures ∙ fired-word (a .lines) (a .gates .now) (a .vector) (l .loop .i) (l .loop .state) (start .pre .0) (start .pre .1) (l .loop .inv .1 .1 .0) (c .before .before .before .gate-at .result) gate (omega arith) _ ones))))
 
--- src/marks.rt:46:1
 returns : tie.Need-returns Inv-loop μ-loop
 returns c =
     let l = c .before in

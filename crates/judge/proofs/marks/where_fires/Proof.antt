@@ -3,19 +3,13 @@ use mathlib.Core.Path.{sym, _∙_}
 use borrow.Author.Needs.{needs}
 use Rattle.judge.proofs.marks.where_fires.Statement.{statement}
 use Rattle.judge.proofs.marks.where_fires.Tie as tie
-use Rattle.judge.proofs.marks.where_fires.Reads as reads
-use Rattle.judge.proofs.marks.where_fires.Lts as lts
-use Rattle.circuit.proofs.checked.fires.Reads as fires-reads
 
--- src/marks.rt:42:8
 fires-requires : tie.Need-fires-requires
 fires-requires c κs = search needs
 
--- src/marks.rt:39:1
 returns : tie.Need-returns
 returns c = rw (sym (c .before .fires .ensures) ∙ c .if1 .taken)
 
--- src/marks.rt:39:1
 returns-2 : tie.Need-returns-2
 returns-2 c = rw (sym (c .before .fires .ensures) ∙ c .if1 .left)
 

@@ -7,10 +7,7 @@ use Rattle.judge.specs.Classes.{isClass}
 use Rattle.judge.specs.Rules.{classRows}
 use Rattle.judge.proofs.rules.check_class.Statement.{statement}
 use Rattle.judge.proofs.rules.check_class.Tie as tie
-use Rattle.judge.proofs.rules.check_class.Reads as reads
-use Rattle.judge.proofs.rules.check_class.Lts as lts
 
--- src/rules.rt:13:1
 returns : tie.Need-returns
 unfolding classRows isClass
 returns c =
@@ -18,7 +15,6 @@ returns c =
     let some : a .class ≡ 0 → ⊥ = c .before .match .rest .1 in
     rw (le-leb 1 (a .class) (omega arith), le-leb (a .class) 4 (omega arith))
 
--- src/rules.rt:13:1
 returns-2 : tie.Need-returns-2
 unfolding classRows isClass
 returns-2 c =
@@ -26,7 +22,6 @@ returns-2 c =
     let zero : a .class ≡ 0 = c .match .keys1 in
     rw (lt-leb 1 (a .class) (omega arith))
 
--- src/rules.rt:13:1
 returns-3 : tie.Need-returns-3
 unfolding classRows isClass
 returns-3 c =

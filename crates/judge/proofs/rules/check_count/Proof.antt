@@ -7,35 +7,25 @@ use Rattle.judge.specs.Rules.{classRows, countRows}
 use borrow.Author.Needs.{needs}
 use Rattle.judge.proofs.rules.check_count.Statement.{statement}
 use Rattle.judge.proofs.rules.check_count.Tie as tie
-use Rattle.judge.proofs.rules.check_count.Reads as reads
-use Rattle.judge.proofs.rules.check_count.Lts as lts
-use Rattle.circuit.proofs.rules.check_circuit.Reads as check-circuit-reads
-use Rattle.judge.proofs.rules.check_class.Reads as check-class-reads
 
--- src/rules.rt:36:11
 check-circuit-requires : tie.Need-check-circuit-requires
 check-circuit-requires c κs = search needs
 
--- src/rules.rt:37:24
 enum-known-refusal : tie.Need-enum-known-refusal
 enum-known-refusal c = search needs
 
--- src/rules.rt:38:26
 enum-told : tie.Need-enum-told
 enum-told c = search needs
 
--- src/rules.rt:38:26
 check-class-requires : tie.Need-check-class-requires
 check-class-requires c κs = search needs
 
--- src/rules.rt:33:1
 returns : tie.Need-returns
 unfolding countRows
 returns c =
     let a = c .before .before .before .before .before .args in
     refused-on (circuitRows (a .lines) (a .gates .now)) (classRows (a .class)) fine _ _ (ap found (sym (c .before .refusal .given .1)) ∙ c .before .before .before .check-circuit .ensures)
 
--- src/rules.rt:33:1
 returns-2 : tie.Need-returns-2
 unfolding countRows
 returns-2 c =

@@ -7,35 +7,25 @@ use Rattle.judge.specs.Rules.{classRows, judgeRows}
 use borrow.Author.Needs.{needs}
 use Rattle.judge.proofs.rules.check_judge.Statement.{statement}
 use Rattle.judge.proofs.rules.check_judge.Tie as tie
-use Rattle.judge.proofs.rules.check_judge.Reads as reads
-use Rattle.judge.proofs.rules.check_judge.Lts as lts
-use Rattle.circuit.proofs.rules.check_set.Reads as check-set-reads
-use Rattle.judge.proofs.rules.check_class.Reads as check-class-reads
 
--- src/rules.rt:26:11
 check-set-requires : tie.Need-check-set-requires
 check-set-requires c κs = search needs
 
--- src/rules.rt:27:24
 enum-known-refusal : tie.Need-enum-known-refusal
 enum-known-refusal c = search needs
 
--- src/rules.rt:28:26
 enum-told : tie.Need-enum-told
 enum-told c = search needs
 
--- src/rules.rt:28:26
 check-class-requires : tie.Need-check-class-requires
 check-class-requires c κs = search needs
 
--- src/rules.rt:23:1
 returns : tie.Need-returns
 unfolding judgeRows
 returns c =
     let a = c .before .before .before .before .before .before .args in
     refused-on (setRows (a .lines) (a .gates .now) (a .vectors .now)) (classRows (a .class)) fine _ _ (ap found (sym (c .before .refusal .given .1)) ∙ c .before .before .before .check-set .ensures)
 
--- src/rules.rt:23:1
 returns-2 : tie.Need-returns-2
 unfolding judgeRows
 returns-2 c =

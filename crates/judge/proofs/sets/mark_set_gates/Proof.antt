@@ -10,9 +10,6 @@ use Rattle.judge.specs.Coverages.{markAll, gateMarks}
 use Rattle.judge.proofs.SetLaws.{mark-all-more, mark-all-end}
 use Rattle.judge.proofs.sets.mark_set_gates.Statement.{statement}
 use Rattle.judge.proofs.sets.mark_set_gates.Tie as tie
-use Rattle.judge.proofs.sets.mark_set_gates.Reads as reads
-use Rattle.judge.proofs.sets.mark_set_gates.Lts as lts
-use Rattle.judge.proofs.marks.mark_gates.Reads as mark-gates-reads
 
 abbrev Inv-loop : tie.InvT-loop
 Inv-loop class words₀ lines gates vectors i₀ words i = markAll words₀ (gateMarks lines (gatesOf gates) class) vectors ≡ markAll words (gateMarks lines (gatesOf gates) class) (drop i vectors)
@@ -20,19 +17,15 @@ Inv-loop class words₀ lines gates vectors i₀ words i = markAll words₀ (gat
 abbrev μ-loop : tie.MeasureT-loop
 μ-loop class words₀ lines gates vectors i₀ words i = length vectors - i
 
--- src/sets.rt:38:5
 loop-holds : tie.Need-loop-holds Inv-loop μ-loop
 loop-holds c = refl
 
--- src/sets.rt:39:22
 mul-vector : tie.Need-mul-vector Inv-loop μ-loop
 mul-vector c = omega arith
 
--- src/sets.rt:39:22
 shared-slice-read-vector : tie.Need-shared-slice-read-vector Inv-loop μ-loop
 shared-slice-read-vector c = omega arith
 
--- src/sets.rt:40:9
 mark-gates-requires : tie.Need-mark-gates-requires Inv-loop μ-loop
 mark-gates-requires c κs =
     let l = c .before .before .before in
@@ -41,15 +34,12 @@ mark-gates-requires c κs =
     let gs = gatesOf (a .gates .now) in
     (start .pre .0, (start .pre .1 .0, (start .pre .1 .1 .0, all-at (λ x. x < 2 ^ (a .lines)) (a .vectors .now) (l .loop .i) 0 (omega arith) (start .pre .1 .1 .1))))
 
--- src/sets.rt:41:9
 add-i : tie.Need-add-i Inv-loop μ-loop
 add-i c = omega arith
 
--- src/sets.rt:38:5
 loop-less : tie.Need-loop-less Inv-loop μ-loop
 loop-less c = omega arith
 
--- src/sets.rt:38:5
 loop-again : tie.Need-loop-again Inv-loop μ-loop
 loop-again c =
     let l = c .before .before .before .before in
@@ -58,7 +48,6 @@ loop-again c =
     let gs = gatesOf (a .gates .now) in
     l .loop .inv ∙ mark-all-more (gateMarks (a .lines) gs (a .class)) (l .loop .words) (a .vectors .now) (l .loop .i) (omega arith) ∙ ap (λ w. markAll w (gateMarks (a .lines) gs (a .class)) (drop (l .loop .i + 1) (a .vectors .now))) (sym (c .mark-gates .ensures))
 
--- src/sets.rt:32:1
 returns : tie.Need-returns Inv-loop μ-loop
 returns c =
     let l = c .before in

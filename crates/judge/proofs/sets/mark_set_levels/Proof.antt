@@ -10,9 +10,6 @@ use Rattle.judge.specs.Coverages.{markAll, levelMarks}
 use Rattle.judge.proofs.SetLaws.{mark-all-more, mark-all-end}
 use Rattle.judge.proofs.sets.mark_set_levels.Statement.{statement}
 use Rattle.judge.proofs.sets.mark_set_levels.Tie as tie
-use Rattle.judge.proofs.sets.mark_set_levels.Reads as reads
-use Rattle.judge.proofs.sets.mark_set_levels.Lts as lts
-use Rattle.judge.proofs.marks.mark_levels.Reads as mark-levels-reads
 
 abbrev Inv-loop : tie.InvT-loop
 Inv-loop at-0₀ at-1₀ lines gates vectors i₀ at-0 at-1 i = (markAll at-0₀ (levelMarks lines (gatesOf gates) 0) vectors ≡ markAll at-0 (levelMarks lines (gatesOf gates) 0) (drop i vectors)) × (markAll at-1₀ (levelMarks lines (gatesOf gates) 1) vectors ≡ markAll at-1 (levelMarks lines (gatesOf gates) 1) (drop i vectors))
@@ -20,19 +17,15 @@ Inv-loop at-0₀ at-1₀ lines gates vectors i₀ at-0 at-1 i = (markAll at-0₀
 abbrev μ-loop : tie.MeasureT-loop
 μ-loop at-0₀ at-1₀ lines gates vectors i₀ at-0 at-1 i = length vectors - i
 
--- src/sets.rt:24:5
 loop-holds : tie.Need-loop-holds Inv-loop μ-loop
 loop-holds c = (refl, refl)
 
--- src/sets.rt:25:22
 mul-vector : tie.Need-mul-vector Inv-loop μ-loop
 mul-vector c = omega arith
 
--- src/sets.rt:25:22
 shared-slice-read-vector : tie.Need-shared-slice-read-vector Inv-loop μ-loop
 shared-slice-read-vector c = omega arith
 
--- src/sets.rt:26:9
 mark-levels-requires : tie.Need-mark-levels-requires Inv-loop μ-loop
 mark-levels-requires c κs =
     let l = c .before .before .before .before in
@@ -41,15 +34,12 @@ mark-levels-requires c κs =
     let gs = gatesOf (a .gates .now) in
     (start .pre .0, all-at (λ x. x < 2 ^ (a .lines)) (a .vectors .now) (l .loop .i) 0 (omega arith) (start .pre .1))
 
--- src/sets.rt:27:9
 add-i : tie.Need-add-i Inv-loop μ-loop
 add-i c = omega arith
 
--- src/sets.rt:24:5
 loop-less : tie.Need-loop-less Inv-loop μ-loop
 loop-less c = omega arith
 
--- src/sets.rt:24:5
 loop-again : tie.Need-loop-again Inv-loop μ-loop
 loop-again c =
     let l = c .before .before .before .before .before in
@@ -61,7 +51,6 @@ loop-again c =
     l .loop .inv .1 ∙ mark-all-more (levelMarks (a .lines) gs 1) (l .loop .at-1) (a .vectors .now) (l .loop .i) (omega arith)
     ∙ ap (λ w. markAll w (levelMarks (a .lines) gs 1) (drop (l .loop .i + 1) (a .vectors .now))) (sym (c .mark-levels .ensures .1)))
 
--- src/sets.rt:17:1
 returns : tie.Need-returns Inv-loop μ-loop
 returns c =
     let l = c .before in

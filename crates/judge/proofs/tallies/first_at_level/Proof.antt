@@ -1,26 +1,26 @@
+-- `judge::tallies::first_at_level` meets its contract: the lowest line of either word, with value 0 where the first word has it. Assumes nothing.
+use native.Mathlib.Omega.{arith}
 use borrow.Author.Needs.{needs}
+use Rattle.words.proofs.Bits.{bit-le}
+use Rattle.words.proofs.AndLaws.{lowest-or-lt}
+use Rattle.judge.specs.Classes.{faultOf}
 use Rattle.judge.proofs.tallies.first_at_level.Statement.{statement}
 use Rattle.judge.proofs.tallies.first_at_level.Tie as tie
-use Rattle.judge.proofs.tallies.first_at_level.Reads as reads
-use Rattle.judge.proofs.tallies.first_at_level.Lts as lts
-use Rattle.words.proofs.checked.lowest.Reads as lowest-reads
-use Rattle.words.proofs.checked.value.Reads as value-reads
 
--- src/tallies.rt:81:9
 lowest-requires : tie.Need-lowest-requires
 lowest-requires c κs = search needs
 
--- src/tallies.rt:82:21
 value-requires : tie.Need-value-requires
-value-requires c κs = ?
+value-requires c κs =
+    let a = c .before .args in
+    rw (c .lowest .ensures) (lowest-or-lt (a .left-0) (a .left-1) (omega arith) (omega arith) (search needs))
 
--- src/tallies.rt:82:17
 sub-value : tie.Need-sub-value
-sub-value c = ?
+sub-value c = rw (c .value .ensures) (bit-le _ _)
 
--- src/tallies.rt:77:1
 returns : tie.Need-returns
-returns c = ?
+unfolding faultOf
+returns c = rw (c .value .ensures, c .before .lowest .ensures)
 
 pub first-at-level-spec : {M : Type 1} → statement M
 first-at-level-spec = tie.close (tie.spec lowest-requires value-requires sub-value returns)

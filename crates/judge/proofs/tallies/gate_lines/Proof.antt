@@ -1,39 +1,44 @@
+-- `judge::tallies::gate_lines` meets its contract: a word for each class, of a gate that is one of a sound circuit. Assumes nothing.
+use mathlib.Core.Path.{sym, _∙_}
 use borrow.Author.Needs.{needs}
+use Rattle.circuit.specs.Gates.{gatesOf}
+use Rattle.circuit.proofs.RuleLaws.{gate-ok}
+use Rattle.judge.proofs.TallyLaws.{lines-two, lines-three, lines-rest}
 use Rattle.judge.proofs.tallies.gate_lines.Statement.{statement}
 use Rattle.judge.proofs.tallies.gate_lines.Tie as tie
-use Rattle.judge.proofs.tallies.gate_lines.Reads as reads
-use Rattle.judge.proofs.tallies.gate_lines.Lts as lts
-use Rattle.circuit.proofs.checked.control_lines.Reads as control-lines-reads
-use Rattle.circuit.proofs.checked.gate_at.Reads as gate-at-reads
-use Rattle.circuit.proofs.checked.other_lines.Reads as other-lines-reads
 
--- src/tallies.rt:37:9
 returns : tie.Need-returns
-returns c = ?
+returns c = let a = c .before .before .args in sym (lines-two (a .lines) (gatesOf (a .gates .now)) (a .class) (a .gate .0) (c .if1 .taken))
 
--- src/tallies.rt:40:37
 gate-at-requires : tie.Need-gate-at-requires
 gate-at-requires c κs = search needs
 
--- src/tallies.rt:40:9
 control-lines-requires : tie.Need-control-lines-requires
-control-lines-requires c κs = ?
+control-lines-requires c κs =
+    let s = c .before .before .before .before in
+    rw (c .gate-at .ensures) (gate-ok (s .args .lines) (s .args .gates .now) (s .args .gate .0) (s .pre .0) (s .pre .1 .0) (s .pre .1 .1))
 
--- src/tallies.rt:40:9
 returns-2 : tie.Need-returns-2
-returns-2 c = ?
+returns-2 c =
+    let a = c .before .before .before .before .before .args in
+    c .control-lines .ensures ∙ rw (c .before .gate-at .ensures)
+    (sym (lines-three (a .lines) (gatesOf (a .gates .now)) (a .class) (a .gate .0) (c .before .before .if2 .taken)))
 
--- src/tallies.rt:42:24
 gate-at-requires-2 : tie.Need-gate-at-requires-2
 gate-at-requires-2 c κs = search needs
 
--- src/tallies.rt:42:5
 other-lines-requires : tie.Need-other-lines-requires
-other-lines-requires c κs = ?
+other-lines-requires c κs =
+    let s = c .before .before .before .before in
+    let ok = gate-ok (s .args .lines) (s .args .gates .now) (s .args .gate .0) (s .pre .0) (s .pre .1 .0) (s .pre .1 .1) in
+    (s .pre .0 .lines-fit, rw (c .gate-at2 .ensures) ok)
 
--- src/tallies.rt:31:1
 returns-3 : tie.Need-returns-3
-returns-3 c = ?
+returns-3 c =
+    let a = c .before .before .before .before .before .args in
+    c .other-lines .ensures ∙ rw (c .before .gate-at2 .ensures)
+    (sym (lines-rest (a .lines) (gatesOf (a .gates .now)) (a .class) (a .gate .0)
+    (c .before .before .before .if1 .left) (c .before .before .if2 .left)))
 
 pub gate-lines-spec : {M : Type 1} → statement M
 gate-lines-spec =

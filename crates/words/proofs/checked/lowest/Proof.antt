@@ -3,10 +3,7 @@ use borrow.Author.Needs.{needs}
 use Rattle.words.proofs.LowestLaws.{lowest-line}
 use Rattle.words.proofs.checked.lowest.Statement.{statement}
 use Rattle.words.proofs.checked.lowest.Tie as tie
-use Rattle.words.proofs.checked.lowest.Reads as reads
-use Rattle.words.proofs.checked.lowest.Lts as lts
 
--- src/checked.rt:53:1
 returns : tie.Need-returns
 returns c = lowest-line (c .args .word) (search needs) (c .pre)
 

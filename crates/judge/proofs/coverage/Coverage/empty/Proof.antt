@@ -3,10 +3,7 @@ use mathlib.Core.Path.{refl}
 use Rattle.judge.specs.Coverages.{emptyCoverage}
 use Rattle.judge.proofs.coverage.Coverage.empty.Statement.{statement}
 use Rattle.judge.proofs.coverage.Coverage.empty.Tie as tie
-use Rattle.judge.proofs.coverage.Coverage.empty.Reads as reads
-use Rattle.judge.proofs.coverage.Coverage.empty.Lts as lts
 
--- src/coverage.rt:41:5
 returns : tie.Need-returns
 unfolding emptyCoverage
 returns c = refl

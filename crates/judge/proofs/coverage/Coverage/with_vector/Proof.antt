@@ -9,31 +9,22 @@ use Rattle.circuit.proofs.RuleLaws.{vector-numbered, vector-ok}
 use borrow.Author.Needs.{needs}
 use Rattle.judge.proofs.coverage.Coverage.with_vector.Statement.{statement}
 use Rattle.judge.proofs.coverage.Coverage.with_vector.Tie as tie
-use Rattle.judge.proofs.coverage.Coverage.with_vector.Reads as reads
-use Rattle.judge.proofs.coverage.Coverage.with_vector.Lts as lts
-use Rattle.circuit.proofs.rules.check_vector.Reads as check-vector-reads
-use Rattle.judge.proofs.coverage.Coverage.marked.Reads as marked-reads
 
--- src/coverage.rt:57:15
 check-vector-requires : tie.Need-check-vector-requires
 check-vector-requires c κs = search needs
 
--- src/coverage.rt:58:28
 enum-known-refusal : tie.Need-enum-known-refusal
 enum-known-refusal c = search needs
 
--- src/coverage.rt:60:21
 enum-told : tie.Need-enum-told
 enum-told c = search needs
 
--- src/coverage.rt:60:21
 marked-requires : tie.Need-marked-requires
 marked-requires c κs =
     let a = c .before .before .before .before .args in
     let ok = vector-ok (a .lines) (a .gates .now) (a .vector) (ap found (sym (c .enum-told .given .1)) ∙ c .before .before .check-vector .ensures) in
     (ok .circuit, ok .vector)
 
--- src/coverage.rt:53:5
 returns : tie.Need-returns
 returns c =
     let a = c .before .before .before .before .before .args in
@@ -41,7 +32,6 @@ returns c =
     let some = refused-number (circuitRows (a .lines) (a .gates .now) ++ vectorRows (a .lines) (a .vector)) _ _ (vector-numbered (a .lines) (a .gates .now) (a .vector)) wrong in
     (rw (ne-eqb _ 0 some) wrong, after-refused (circuitRows (a .lines) (a .gates .now) ++ vectorRows (a .lines) (a .vector)) _ (a .self) _ _ wrong)
 
--- src/coverage.rt:53:5
 returns-2 : tie.Need-returns-2
 returns-2 c =
     let a = c .before .before .before .before .before .args in

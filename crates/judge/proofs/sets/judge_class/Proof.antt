@@ -1,0 +1,26 @@
+-- `judge::sets::judge_class` meets its contract: class 1 goes by levels, the others by gates. Assumes nothing.
+use mathlib.Core.Path.{_≡_, ap, sym, _∙_}
+use Rattle.circuit.specs.Gates.{gatesOf}
+use Rattle.judge.specs.Judging.{caughtBySome, verdict}
+use Rattle.judge.proofs.ClassLists.{list-one}
+use borrow.Author.Needs.{needs}
+use Rattle.judge.proofs.sets.judge_class.Statement.{statement}
+use Rattle.judge.proofs.sets.judge_class.Tie as tie
+
+judge-levels-requires : tie.Need-judge-levels-requires
+judge-levels-requires c κs = search needs
+
+returns : tie.Need-returns
+returns c =
+    let a = c .before .before .before .before .args in
+    c .judge-levels .ensures ∙ ap (verdict (caughtBySome (gatesOf (a .gates .now)) (a .vectors .now))) (sym (list-one (a .lines) (gatesOf (a .gates .now)) (a .class) (c .before .if1 .taken)))
+
+judge-gates-requires : tie.Need-judge-gates-requires
+judge-gates-requires c κs = search needs
+
+returns-2 : tie.Need-returns-2
+returns-2 c = search needs
+
+pub judge-class-spec : {M : Type 1} → statement M
+judge-class-spec =
+    tie.close (tie.spec judge-levels-requires returns judge-gates-requires returns-2)

@@ -1,0 +1,24 @@
+-- `judge::sets::judge_levels` meets its contract: the words that its own marks make say what some vector catches. Assumes nothing.
+use mathlib.Core.Path.{refl, _∙_}
+use Rattle.circuit.specs.Gates.{gatesOf}
+use Rattle.judge.proofs.ClassLists.{list-one}
+use Rattle.judge.proofs.SetLaws.{set-levels}
+use borrow.Author.Needs.{needs}
+use Rattle.judge.proofs.sets.judge_levels.Statement.{statement}
+use Rattle.judge.proofs.sets.judge_levels.Tie as tie
+
+mark-set-levels-requires : tie.Need-mark-set-levels-requires
+mark-set-levels-requires c κs = search needs
+
+tally-levels-requires : tie.Need-tally-levels-requires
+tally-levels-requires c κs = search needs
+
+returns : tie.Need-returns
+returns c =
+    let start = c .before .before .before .before .before .before .before .before in
+    let a = start .args in
+    c .tally-levels .ensures ∙ rw (← list-one (a .lines) (gatesOf (a .gates .now)) 1 refl)
+    (set-levels (a .lines) (a .gates .now) (a .vectors .now) (start .pre .0) _ _ (c .before .before .before .mark-set-levels .ensures .0) (c .before .before .before .mark-set-levels .ensures .1))
+
+pub judge-levels-spec : {M : Type 1} → statement M
+judge-levels-spec = tie.close (tie.spec mark-set-levels-requires tally-levels-requires returns)
