@@ -44,7 +44,8 @@ module _ {ℓ} {A : Type ℓ} where
   pub some-within : (p : A → Bool) (ys zs : List A) → ((a : A) → List·Memᴰ a ys → List·Memᴰ a zs) → some p ys ≡ true → some p zs ≡ true
   some-within p ys zs h e = let r = some-entry p ys e in entry-some p (h (r .0) (r .1)) (r .2)
 
-  pub some-same : (p : A → Bool) (ys zs : List A) → ((a : A) → List·Memᴰ a ys → List·Memᴰ a zs) → ((a : A) → List·Memᴰ a zs → List·Memᴰ a ys) → some p ys ≡ some p zs
+  pub some-same : (p : A → Bool) (ys zs : List A) → ((a : A) → List·Memᴰ a ys → List·Memᴰ a zs) → ((a : A) → List·Memᴰ a zs → List·Memᴰ a ys)
+      → some p ys ≡ some p zs
   some-same p ys zs f g = bool-ext (some-within p ys zs f) (some-within p zs ys g)
 
   -- ---- the first entry that passes: those before it fail
@@ -67,7 +68,15 @@ module _ {ℓ} {A : Type ℓ} where
       record { before = []; after = ys; parts = ap (λ c. c ∷ ys) head; passes = ap p (sym head) ∙ q; failed = tt; kept = sym (ap (drop 1) w) })
       (λ q.
       let r = first-kept p ys a rest (rw q at e) in
-      record { before = b ∷ r .before; after = r .after; parts = ap (λ l. b ∷ l) (r .parts); passes = r .passes; failed = (q, r .failed); kept = r .kept })
+      record {
+        before = b ∷ r .before;
+        after = r .after;
+        parts = ap (λ l. b ∷ l) (r .parts);
+        passes = r .passes;
+        failed =
+            (q, r .failed);
+        kept = r .kept;
+      })
 
 -- ---- each
 
@@ -89,7 +98,14 @@ module _ {ℓ κ} {A : Type ℓ} {B : Type κ} where
   count-two p f g [] = refl
   count-two p f g (a ∷ ys) =
       let rest : List B = each (λ b. f b ∷ g b ∷ []) ys in
-      omega (arith, length-keep p (f a) (g a ∷ rest), length-keep p (g a) rest, length-keep (λ b. p (f b)) a ys, length-keep (λ b. p (g b)) a ys, count-two p f g ys)
+      omega (
+        arith,
+        length-keep p (f a) (g a ∷ rest),
+        length-keep p (g a) rest,
+        length-keep (λ b. p (f b)) a ys,
+        length-keep (λ b. p (g b)) a ys,
+        count-two p f g ys,
+      )
 
 -- a number among those that count up stands there once
 pub count-number : (t a k : ℕ) → a ≤ t → t < a + k → length (keep (λ i. eqb i t) (upFrom a k)) ≡ 1
@@ -97,6 +113,8 @@ unfolding upFrom
 count-number t a zero lo hi = absurd (omega arith)
 count-number t a (suc k) lo hi = by-equal a t
     (λ e.
-    let none : keep (λ i. eqb i t) (upFrom (suc a) k) ≡ [] = keep-none (λ i. eqb i t) (upFrom (suc a) k) (all-upFrom _ (suc a) k (λ i l m. ne-eqb i t (omega arith))) in
+    let none : keep (λ i. eqb i t) (upFrom (suc a) k) ≡ [] = keep-none (λ i. eqb i t) (upFrom (suc a) k)
+    (all-upFrom _ (suc a) k (λ i l m. ne-eqb i t (omega arith))) in
     omega (arith, length-keep (λ i. eqb i t) a (upFrom (suc a) k), ap count (eq-eqb a t e), ap length none))
-    (λ d. omega (arith, length-keep (λ i. eqb i t) a (upFrom (suc a) k), ap count (ne-eqb a t d), count-number t (suc a) k (omega arith) (omega arith)))
+    (λ d. omega
+    (arith, length-keep (λ i. eqb i t) a (upFrom (suc a) k), ap count (ne-eqb a t d), count-number t (suc a) k (omega arith) (omega arith)))

@@ -93,7 +93,8 @@ module _ {ℓ} {A : Type ℓ} where
   unfolding some
   some-found p ys i d h e = rw (drop-cons ys i d h, e)
 
-  pub some-passed : (p : A → Bool) (ys : List A) (i : ℕ) (d : A) → i < length ys → p (getD ys i d) ≡ false → some p (drop i ys) ≡ some p (drop (i + 1) ys)
+  pub some-passed : (p : A → Bool) (ys : List A) (i : ℕ) (d : A) → i < length ys → p (getD ys i d) ≡ false
+      → some p (drop i ys) ≡ some p (drop (i + 1) ys)
   unfolding some
   some-passed p ys i d h e = rw (add-one i, drop-cons ys i d h, e)
 

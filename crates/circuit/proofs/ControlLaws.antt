@@ -51,7 +51,8 @@ fires-less g c s e =
     let on : bit (g .controls) c ≡ 1 = eqb-true (bit (g .controls) c) 1 e in
     let others : force (g .controls) c 0 ≡ flip (g .controls) c = force-other (g .controls) c 0 (λ z. omega arith) in
     let off : bit (flip (g .controls) c) c ≡ 0 = omega (arith, bit-flip-same (g .controls) c) in
-    ap (λ m. allOn m s) (sym (flip-flip (g .controls) c)) ∙ all-on-more (flip (g .controls) c) s c off ∙ ap (λ m. eqb (bit s c) 1 && allOn m s) (sym others)
+    ap (λ m. allOn m s) (sym (flip-flip (g .controls) c)) ∙ all-on-more (flip (g .controls) c) s c off
+    ∙ ap (λ m. eqb (bit s c) 1 && allOn m s) (sym others)
 
 -- the controls that are left are the others
 less-controls : (g : Gate) (c j : ℕ) → c ≢ j → isControl (lessControl c g) j ≡ isControl g j
@@ -142,4 +143,5 @@ fires-but n g a ok e = all-on-but n (g .controls) a (ok .controls-in) (no-contro
 pub less-fires-but : (n : ℕ) (g : Gate) (c : ℕ) → GateOk n g → isControl g c ≡ true → fires (lessControl c g) (force (allOnes n) c 0) ≡ true
 unfolding fires lessControl
 less-fires-but n g c ok e =
-    all-on-but n (force (g .controls) c 0) c (force-lt n (g .controls) c 0 (ok .controls-in) (control-in n g c ok e)) (bit-force-same (g .controls) c 0 (omega arith))
+    all-on-but n (force (g .controls) c 0) c (force-lt n (g .controls) c 0 (ok .controls-in) (control-in n g c ok e))
+    (bit-force-same (g .controls) c 0 (omega arith))

@@ -34,7 +34,8 @@ other-line n g ok j h = by-equal (g .target) j
     (λ e.
     let off = no-control g (g .target) (ok .apart) in
     let one = bit-inverse n (g .controls) (g .target) (ok .target-in) in
-    let zero : bit (flip (inverse n (g .controls)) (g .target)) j ≡ 0 = ap (bit (flip (inverse n (g .controls)) (g .target))) (sym e) ∙ omega (arith, bit-flip-same (inverse n (g .controls)) (g .target)) in
+    let zero : bit (flip (inverse n (g .controls)) (g .target)) j ≡ 0 = ap (bit (flip (inverse n (g .controls)) (g .target))) (sym e)
+    ∙ omega (arith, bit-flip-same (inverse n (g .controls)) (g .target)) in
     rw (zero, eq-eqb j (g .target) (sym e)) (by-test (not (eqb (bit (g .controls) j) 1)) (λ t. rw t) (λ t. rw t)))
     (λ d.
     rw (bit-flip-other (inverse n (g .controls)) (g .target) j d, ne-eqb j (g .target) (λ q. d (sym q)))
@@ -48,4 +49,5 @@ others-word n g ok =
 
 -- as code makes it, of the word of n ones
 pub others-code : (n ones : ℕ) (g : Gate) → GateOk n g → ones ≡ allOnes n → flip (bitXor (g .controls) ones) (g .target) ≡ wordOf n (isOther g)
-others-code n ones g ok e = ap (λ o. flip (bitXor (g .controls) o) (g .target)) e ∙ ap (λ w. flip w (g .target)) (inverse-code n (g .controls)) ∙ others-word n g ok
+others-code n ones g ok e = ap (λ o. flip (bitXor (g .controls) o) (g .target)) e ∙ ap (λ w. flip w (g .target)) (inverse-code n (g .controls))
+    ∙ others-word n g ok

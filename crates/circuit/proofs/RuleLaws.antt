@@ -87,7 +87,8 @@ sound-gates n words e = all-map (good-gate n) (gatesOf words) (none-bad (badGate
 sound-whole : (n : ℕ) (words : List ℕ) → firstBadGate n words ≡ 0 → length words ≡ 3 * length (gatesOf words)
 unfolding firstBadGate
 sound-whole n words e =
-    let z = eqb-true (length words % 3) 0 (not-false (eqb (length words % 3) 0) (none-left (badGate n) (not (eqb (length words % 3) 0)) (gatesOf words) 0 e)) in
+    let z = eqb-true (length words % 3) 0
+    (not-false (eqb (length words % 3) 0) (none-left (badGate n) (not (eqb (length words % 3) 0)) (gatesOf words) 0 e)) in
     omega (arith, gates-count words)
 
 -- with a set of m vectors

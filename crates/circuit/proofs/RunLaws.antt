@@ -102,7 +102,8 @@ onward-more gs i k s le h =
 
 pub onward-none : (gs : List Gate) (i s : ℕ) → onward gs i i s ≡ s
 unfolding onward run
-onward-none gs i s = let short : length (take i gs) ≤ i = rw (length-take i gs) (min-le-left i (length gs)) in rw (drop-of-length-le (take i gs) short)
+onward-none gs i s = let short : length (take i gs) ≤ i =
+    rw (length-take i gs) (min-le-left i (length gs)) in rw (drop-of-length-le (take i gs) short)
 
 -- from the input it is the run forward, and to the last level the rest of the circuit
 pub onward-forward : (gs : List Gate) (k x : ℕ) → onward gs 0 k x ≡ forward gs k x

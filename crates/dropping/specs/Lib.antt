@@ -1,3 +1,4 @@
 pub mod Dropping
 pub mod Rules
+pub mod Records
 pub mod Answers

@@ -23,7 +23,8 @@ use Rattle.simulator.specs.Rules.{isStuckAt, isGate, isMissingGate, isMissingCo
 use Rattle.simulator.specs.declared.Fault.{Fault}
 use Rattle.simulator.proofs.RuleLaws.{class-one, class-two, class-three, class-four, class-last}
 use Rattle.judge.specs.Classes.{faultOf, stuckFaults, missingGates, missingControls, extraControls, classFaults}
-use Rattle.judge.proofs.ClassParts.{all-stuck, stuck-all, all-missing-gates, missing-gates-all, all-missing-controls, missing-controls-all, all-extra-controls, extra-controls-all}
+use Rattle.judge.proofs.ClassParts.{all-stuck, stuck-all, all-missing-gates, missing-gates-all, all-missing-controls, missing-controls-all}
+use Rattle.judge.proofs.ClassParts.{all-extra-controls, extra-controls-all}
 
 -- ---- the list of a class by its code
 
@@ -114,7 +115,8 @@ module _ (n : ℕ) (gs : List Gate) (f : Fault) where
       let w = and-both (leb (f .place) (length gs)) _ t in
       let v = and-both (eqb (bit (sites n gs (f .place)) (f .line)) 1) (leb (f .value) 1) (w .1) in
       Memᴰ·cast (same-fault f e refl refl)
-      (stuck-all (λ h. List·Memᴰ h (stuckFaults n gs)) n gs (all-members (stuckFaults n gs)) (f .place) (f .line) (f .value) (leb-true _ _ (w .0)) (eqb-true _ _ (v .0)) (leb-true _ _ (v .1)))
+      (stuck-all (λ h. List·Memᴰ h (stuckFaults n gs)) n gs (all-members (stuckFaults n gs)) (f .place) (f .line) (f .value) (leb-true _ _ (w .0))
+      (eqb-true _ _ (v .0)) (leb-true _ _ (v .1)))
 
   in-missing-gates : f .class ≡ 2 → isMissingGate gs f ≡ true → List·Memᴰ f (missingGates gs)
   unfolding isMissingGate
@@ -134,7 +136,8 @@ module _ (n : ℕ) (gs : List Gate) (f : Fault) where
       let z = and-both (isControl g (f .line)) (eqb (f .value) 0) (w .1) in
       let line : f .line < n = control-in n g (f .line) (all-at (GateOk n) gs (f .place - 1) noGate (omega arith) ok) (z .0) in
       Memᴰ·cast (same-fault f e refl (eqb-true _ _ (z .1)))
-      (missing-controls-all (λ h. List·Memᴰ h (missingControls n gs)) n gs (all-members (missingControls n gs)) (f .place) (f .line) (p .0) (p .1) line (z .0))
+      (missing-controls-all (λ h. List·Memᴰ h (missingControls n gs)) n gs (all-members (missingControls n gs)) (f .place) (f .line) (p .0)
+      (p .1) line (z .0))
 
   in-extra-controls : f .class ≡ 4 → isExtraControl n gs f ≡ true → List·Memᴰ f (extraControls n gs)
   unfolding isExtraControl isOther
@@ -146,7 +149,8 @@ module _ (n : ℕ) (gs : List Gate) (f : Fault) where
       let c = and-both (not (isControl g (f .line))) _ (l .1) in
       let z = and-both (not (eqb (f .line) (g .target))) (eqb (f .value) 0) (c .1) in
       Memᴰ·cast (same-fault f e refl (eqb-true _ _ (z .1)))
-      (extra-controls-all (λ h. List·Memᴰ h (extraControls n gs)) n gs (all-members (extraControls n gs)) (f .place) (f .line) (p .0) (p .1) (ltb-true _ _ (l .0)) (and-true (c .0) (z .0)))
+      (extra-controls-all (λ h. List·Memᴰ h (extraControls n gs)) n gs (all-members (extraControls n gs)) (f .place) (f .line) (p .0) (p .1)
+      (ltb-true _ _ (l .0)) (and-true (c .0) (z .0)))
 
   pub in-class-list : AllOk n gs → isFault n gs f ≡ true → List·Memᴰ f (classFaults n gs (f .class))
   in-class-list ok is = by-equal (f .class) 1

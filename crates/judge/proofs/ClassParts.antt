@@ -37,7 +37,8 @@ module _ (P : Fault → Type 0) (n : ℕ) (gs : List Gate) where
   unfolding stuckFaults
   stuck-all w i j v hi o hv =
       let level = upFrom-all _ 0 (suc (length gs)) (each-all _ P (upFrom 0 (suc (length gs))) w) i zero-le (omega arith) in
-      let both = lines-all _ n (sites n gs i) (each-all _ P (linesOn n (sites n gs i)) level) j (site-line n gs i j (eq-eqb (bit (sites n gs i) j) 1 o)) o in
+      let both = lines-all _ n (sites n gs i) (each-all _ P (linesOn n (sites n gs i)) level) j
+      (site-line n gs i j (eq-eqb (bit (sites n gs i) j) 1 o)) o in
       at-value i j both v hv
 
 -- ---- class 2
@@ -57,7 +58,8 @@ module _ (P : Fault → Type 0) (n d : ℕ) (make : ℕ → ℕ → Fault) (test
   all-by-gate : ((i c : ℕ) → 1 ≤ i → i ≤ d → c < n → test i c ≡ true → P (make i c))
       → All P (each (λ i. each (λ c. make i c ∷ []) (keep (test i) (upFrom 0 n))) (upFrom 1 d))
   all-by-gate h = all-each _ P (upFrom 1 d) (all-upFrom _ 1 d (λ i l m.
-      all-each _ P (keep (test i) (upFrom 0 n)) (all-kept _ (test i) (upFrom 0 n) (all-upFrom _ 0 n (λ c lo hi e. (h i c l (omega arith) (omega arith) e, tt))))))
+      all-each _ P (keep (test i) (upFrom 0 n))
+      (all-kept _ (test i) (upFrom 0 n) (all-upFrom _ 0 n (λ c lo hi e. (h i c l (omega arith) (omega arith) e, tt))))))
 
   by-gate-all : All P (each (λ i. each (λ c. make i c ∷ []) (keep (test i) (upFrom 0 n))) (upFrom 1 d))
       → (i c : ℕ) → 1 ≤ i → i ≤ d → c < n → test i c ≡ true → P (make i c)

@@ -24,10 +24,12 @@ use Rattle.judge.specs.Classes.{faultOf, stuckFaults, missingGates, miss
 -- ---- counts
 
 -- a list that is made place by place is counted place by place
-pub count-places : (m : Fault → Bool) (g : ℕ → List Fault) (a k : ℕ) → length (keep m (each g (upFrom a k))) ≡ sumFrom (λ i. length (keep m (g i))) a k
+pub count-places : (m : Fault → Bool) (g : ℕ → List Fault) (a k : ℕ)
+    → length (keep m (each g (upFrom a k))) ≡ sumFrom (λ i. length (keep m (g i))) a k
 count-places m g a k = ap length (keep-each m g (upFrom a k)) ∙ length-sum (λ i. keep m (g i)) a k
 
-pub count-missing-gates : (m : Fault → Bool) (gs : List Gate) → length (keep m (missingGates gs)) ≡ sumFrom (λ i. count (m (faultOf 2 i 0 0))) 1 (length gs)
+pub count-missing-gates : (m : Fault → Bool) (gs : List Gate)
+    → length (keep m (missingGates gs)) ≡ sumFrom (λ i. count (m (faultOf 2 i 0 0))) 1 (length gs)
 unfolding missingGates keep
 count-missing-gates m gs =
     count-places m (λ i. faultOf 2 i 0 0 ∷ []) 1 (length gs)
@@ -35,7 +37,8 @@ count-missing-gates m gs =
 
 module _ (m : Fault → Bool) (n : ℕ) (gs : List Gate) where
   pub count-stuck : length (keep m (stuckFaults n gs))
-      ≡ sumFrom (λ i. length (keep (λ j. m (faultOf 1 i j 0)) (linesOn n (sites n gs i))) + length (keep (λ j. m (faultOf 1 i j 1)) (linesOn n (sites n gs i)))) 0 (suc (length gs))
+      ≡ sumFrom (λ i. length (keep (λ j. m (faultOf 1 i j 0)) (linesOn n (sites n gs i))) + length
+      (keep (λ j. m (faultOf 1 i j 1)) (linesOn n (sites n gs i)))) 0 (suc (length gs))
   unfolding stuckFaults
   count-stuck =
       count-places m (λ i. each (λ j. faultOf 1 i j 0 ∷ faultOf 1 i j 1 ∷ []) (linesOn n (sites n gs i))) 0 (suc (length gs))
@@ -74,7 +77,8 @@ module _ (q : Fault → Bool) (g : ℕ → List Fault) where
   -- the same up to place e, and the end
   pub passed-to : (i e : ℕ) → i < e → keep q (g i) ≡ [] → keep q (each g (upFrom i (e - i))) ≡ keep q (each g (upFrom (i + 1) (e - (i + 1))))
   passed-to i e h w =
-      ap (λ l. keep q (each g l)) (up-next i e h) ∙ first-passed i (e - (i + 1)) w ∙ ap (λ j. keep q (each g (upFrom j (e - (i + 1))))) (sym (add-one i))
+      ap (λ l. keep q (each g l)) (up-next i e h) ∙ first-passed i (e - (i + 1)) w
+      ∙ ap (λ j. keep q (each g (upFrom j (e - (i + 1))))) (sym (add-one i))
 
   pub found-to : (i e : ℕ) (f : Fault) (r : List Fault) → i < e → keep q (g i) ≡ f ∷ r
       → keep q (each g (upFrom i (e - i))) ≡ f ∷ (r ++ keep q (each g (upFrom (i + 1) (e - (i + 1)))))

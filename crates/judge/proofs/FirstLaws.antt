@@ -16,7 +16,8 @@ use Rattle.basics.proofs.ListMore.{keep-append}
 use Rattle.words.specs.Word.{bit, linesOn}
 use Rattle.words.specs.WordOf.{lacking}
 use Rattle.words.proofs.Bits.{bit-le}
-use Rattle.words.proofs.AndLaws.{lacking-lt, lacking-or-lt, lines-zero, lowest-first, lowest-on, on-lacking, on-lacking-or, lines-lacking, lines-lacking-or}
+use Rattle.words.proofs.AndLaws.{lacking-lt, lacking-or-lt, lines-zero, lowest-first, lowest-on, on-lacking, on-lacking-or, lines-lacking}
+use Rattle.words.proofs.AndLaws.{lines-lacking-or}
 use Rattle.circuit.specs.declared.Gate.{Gate}
 use Rattle.simulator.specs.Sites.{sites}
 use Rattle.simulator.specs.declared.Fault.{Fault}

@@ -20,7 +20,8 @@ use Rattle.judge.specs.Judging.{caughtBySome}
 use Rattle.judge.specs.Coverages.{emptyCoverage, levelMarks, gateMarks, withAll, markAll, isMarked}
 use Rattle.judge.specs.declared.coverage.Coverage.{Coverage}
 use Rattle.judge.proofs.MarkLaws.{on-caught-lines}
-use Rattle.judge.proofs.CoverLaws.{level-marks-length, gate-marks-length, level-mark-at, gate-mark-at, mark-all-on, with-all-stuck-0, with-all-stuck-1, with-all-gates, with-all-controls, with-all-extras}
+use Rattle.judge.proofs.CoverLaws.{level-marks-length, gate-marks-length, level-mark-at, gate-mark-at, mark-all-on, with-all-stuck-0}
+use Rattle.judge.proofs.CoverLaws.{with-all-stuck-1, with-all-gates, with-all-controls, with-all-extras}
 
 -- a coverage has a word for each of 1,025 levels and 1,024 gates
 pub record Sized (c : Coverage) : Type 0 where
@@ -56,7 +57,8 @@ module _ (n : ℕ) (gs : List Gate) (few : length gs ≤ 1024) (xs : List ℕ) w
       (λ x. ap (λ y. eqb (bit y j) 1) (level-mark-at n gs v x i h) ∙ on-caught-lines n gs 1 v x i j l)
 
   gate-list : (ws : List ℕ) (k i j : ℕ) → length ws ≡ 1024 → 1 ≤ i → i ≤ length gs → j < n
-      → eqb (bit (getD (markAll ws (gateMarks n gs k) xs) (i - 1) 0) j) 1 ≡ (eqb (bit (getD ws (i - 1) 0) j) 1 || caughtBySome gs xs (faultOf k i j 0))
+      → eqb (bit (getD (markAll ws (gateMarks n gs k) xs) (i - 1) 0) j) 1 ≡
+      (eqb (bit (getD ws (i - 1) 0) j) 1 || caughtBySome gs xs (faultOf k i j 0))
   gate-list ws k i j w lo hi l =
       list-mean ws (gateMarks n gs k) (i - 1) j (faultOf k i j 0) (omega arith) (λ x. omega (arith, gate-marks-length n gs k x))
       (λ x. ap (λ y. eqb (bit y j) 1) (gate-mark-at n gs k x i lo hi) ∙ on-caught-lines n gs k 0 x i j l)
@@ -122,7 +124,8 @@ pick-same false ws = refl
 pub empty-unmarked : (f : Fault) → isMarked emptyCoverage f ≡ false
 unfolding isMarked emptyCoverage
 empty-unmarked f =
-    either (eqb (f .class) 1) (ap (λ ws. eqb (bit (getD ws (f .place) 0) (f .line)) 1) (pick-same (eqb (f .value) 0) (replicate 1025 0)) ∙ off-at 1025 (f .place) (f .line))
+    either (eqb (f .class) 1)
+    (ap (λ ws. eqb (bit (getD ws (f .place) 0) (f .line)) 1) (pick-same (eqb (f .value) 0) (replicate 1025 0)) ∙ off-at 1025 (f .place) (f .line))
     (either (eqb (f .class) 2) (off-at 1024 (f .place - 1) (f .line))
     (either (eqb (f .class) 3) (off-at 1024 (f .place - 1) (f .line)) (off-at 1024 (f .place - 1) (f .line))))
 

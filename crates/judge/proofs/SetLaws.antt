@@ -48,18 +48,21 @@ verdict-agree p q fs same =
 
 -- ---- the faults of a class have their marks
 
-has-mark : (n : ℕ) (words : List ℕ) (class : ℕ) (f : Fault) → Sound n words → 1 ≤ class → class ≤ 4 → OfClass n (gatesOf words) class f → HasMark n (gatesOf words) f
+has-mark : (n : ℕ) (words : List ℕ) (class : ℕ) (f : Fault) → Sound n words → 1 ≤ class → class ≤ 4 → OfClass n (gatesOf words) class f
+    → HasMark n (gatesOf words) f
 has-mark n words class f ok lo hi of = by-equal (f .class) 1
     (λ e. let k = stuck-fault n words f ok (of .1) e in at-level e (k .value-in) (k .place-in) (k .line-in))
     (λ d.
     let w = names-gate n words f ok (of .1) d in
-    at-gate (let c = of .0 in omega arith) (let c = of .0 in omega arith) (no-value n words f ok (of .1) d) (w .0) (w .1) (names-line n words f ok (of .1)))
+    at-gate (let c = of .0 in omega arith) (let c = of .0 in omega arith) (no-value n words f ok (of .1) d) (w .0) (w .1)
+    (names-line n words f ok (of .1)))
 
 -- begun empty and given a set's vectors, a coverage has marked just what some vector of the set catches
 pub empty-agrees : (n : ℕ) (words xs : List ℕ) (class : ℕ) → Sound n words → 1 ≤ class → class ≤ 4
     → All (λ f. isMarked (withAll emptyCoverage n (gatesOf words) xs) f ≡ caughtBySome (gatesOf words) xs f) (classFaults n (gatesOf words) class)
 empty-agrees n words xs class ok lo hi =
-    all-map (λ f of. mark-mean-empty n (gatesOf words) (ok .gates-fit) xs f (has-mark n words class f ok lo hi of)) (classFaults n (gatesOf words) class)
+    all-map (λ f of. mark-mean-empty n (gatesOf words) (ok .gates-fit) xs f (has-mark n words class f ok lo hi of))
+    (classFaults n (gatesOf words) class)
     (class-faults-are n (gatesOf words) class)
 
 -- ---- which words a class's marks are
@@ -75,12 +78,14 @@ gates-is c f e = pick-false (ne-eqb (f .class) 1 (λ q. omega arith)) _ _ ∙ pi
 controls-is : (c : Coverage) (f : Fault) → f .class ≡ 3 → isMarked c f ≡ gateMarked (c .«missing_controls») f
 unfolding isMarked
 controls-is c f e =
-    pick-false (ne-eqb (f .class) 1 (λ q. omega arith)) _ _ ∙ pick-false (ne-eqb (f .class) 2 (λ q. omega arith)) _ _ ∙ pick-true (eq-eqb (f .class) 3 e) _ _
+    pick-false (ne-eqb (f .class) 1 (λ q. omega arith)) _ _ ∙ pick-false (ne-eqb (f .class) 2 (λ q. omega arith)) _ _
+    ∙ pick-true (eq-eqb (f .class) 3 e) _ _
 
 extras-is : (c : Coverage) (f : Fault) → f .class ≡ 4 → isMarked c f ≡ gateMarked (c .«extra_controls») f
 unfolding isMarked
 extras-is c f e =
-    pick-false (ne-eqb (f .class) 1 (λ q. omega arith)) _ _ ∙ pick-false (ne-eqb (f .class) 2 (λ q. omega arith)) _ _ ∙ pick-false (ne-eqb (f .class) 3 (λ q. omega arith)) _ _
+    pick-false (ne-eqb (f .class) 1 (λ q. omega arith)) _ _ ∙ pick-false (ne-eqb (f .class) 2 (λ q. omega arith)) _ _
+    ∙ pick-false (ne-eqb (f .class) 3 (λ q. omega arith)) _ _
 
 module _ (n : ℕ) (gs : List Gate) (c : Coverage) where
   -- the verdict on a coverage for a class is that on the class's words
@@ -99,41 +104,48 @@ module _ (n : ℕ) (gs : List Gate) (c : Coverage) where
 -- ---- the judge of a set and the coverage of its vectors give one verdict
 
 pub judge-is-coverage : (n : ℕ) (words xs : List ℕ) (class : ℕ) → Sound n words → 1 ≤ class → class ≤ 4
-    → verdict (isMarked (withAll emptyCoverage n (gatesOf words) xs)) (classFaults n (gatesOf words) class) ≡ verdict (caughtBySome (gatesOf words) xs) (classFaults n (gatesOf words) class)
+    → verdict (isMarked (withAll emptyCoverage n (gatesOf words) xs)) (classFaults n (gatesOf words) class) ≡ verdict
+    (caughtBySome (gatesOf words) xs) (classFaults n (gatesOf words) class)
 judge-is-coverage n words xs class ok lo hi = verdict-agree _ _ _ (empty-agrees n words xs class ok lo hi)
 
 -- so the judge may mark words of its own
 module _ (n : ℕ) (words xs : List ℕ) (ok : Sound n words) where
-  pub set-levels : (at0 at1 : List ℕ) → at0 ≡ markAll (replicate 1025 0) (levelMarks n (gatesOf words) 0) xs → at1 ≡ markAll (replicate 1025 0) (levelMarks n (gatesOf words) 1) xs
+  pub set-levels : (at0 at1 : List ℕ) → at0 ≡ markAll (replicate 1025 0) (levelMarks n (gatesOf words) 0) xs
+      → at1 ≡ markAll (replicate 1025 0) (levelMarks n (gatesOf words) 1) xs
       → verdict (levelMarked at0 at1) (classFaults n (gatesOf words) 1) ≡ verdict (caughtBySome (gatesOf words) xs) (classFaults n (gatesOf words) 1)
   unfolding emptyCoverage
   set-levels at0 at1 e0 e1 =
       rw (e0, e1, ← with-all-stuck-0 n (gatesOf words) emptyCoverage xs, ← with-all-stuck-1 n (gatesOf words) emptyCoverage xs)
-      (sym (verdict-levels n (gatesOf words) (withAll emptyCoverage n (gatesOf words) xs)) ∙ judge-is-coverage n words xs 1 ok (omega arith) (omega arith))
+      (sym (verdict-levels n (gatesOf words) (withAll emptyCoverage n (gatesOf words) xs))
+      ∙ judge-is-coverage n words xs 1 ok (omega arith) (omega arith))
 
   set-two : (ws : List ℕ) → ws ≡ markAll (replicate 1024 0) (gateMarks n (gatesOf words) 2) xs
       → verdict (gateMarked ws) (classFaults n (gatesOf words) 2) ≡ verdict (caughtBySome (gatesOf words) xs) (classFaults n (gatesOf words) 2)
   unfolding emptyCoverage
   set-two ws e =
       rw (e, ← with-all-gates n (gatesOf words) emptyCoverage xs)
-      (sym (verdict-gates n (gatesOf words) (withAll emptyCoverage n (gatesOf words) xs)) ∙ judge-is-coverage n words xs 2 ok (omega arith) (omega arith))
+      (sym (verdict-gates n (gatesOf words) (withAll emptyCoverage n (gatesOf words) xs))
+      ∙ judge-is-coverage n words xs 2 ok (omega arith) (omega arith))
 
   set-three : (ws : List ℕ) → ws ≡ markAll (replicate 1024 0) (gateMarks n (gatesOf words) 3) xs
       → verdict (gateMarked ws) (classFaults n (gatesOf words) 3) ≡ verdict (caughtBySome (gatesOf words) xs) (classFaults n (gatesOf words) 3)
   unfolding emptyCoverage
   set-three ws e =
       rw (e, ← with-all-controls n (gatesOf words) emptyCoverage xs)
-      (sym (verdict-controls n (gatesOf words) (withAll emptyCoverage n (gatesOf words) xs)) ∙ judge-is-coverage n words xs 3 ok (omega arith) (omega arith))
+      (sym (verdict-controls n (gatesOf words) (withAll emptyCoverage n (gatesOf words) xs))
+      ∙ judge-is-coverage n words xs 3 ok (omega arith) (omega arith))
 
   set-four : (ws : List ℕ) → ws ≡ markAll (replicate 1024 0) (gateMarks n (gatesOf words) 4) xs
       → verdict (gateMarked ws) (classFaults n (gatesOf words) 4) ≡ verdict (caughtBySome (gatesOf words) xs) (classFaults n (gatesOf words) 4)
   unfolding emptyCoverage
   set-four ws e =
       rw (e, ← with-all-extras n (gatesOf words) emptyCoverage xs)
-      (sym (verdict-extras n (gatesOf words) (withAll emptyCoverage n (gatesOf words) xs)) ∙ judge-is-coverage n words xs 4 ok (omega arith) (omega arith))
+      (sym (verdict-extras n (gatesOf words) (withAll emptyCoverage n (gatesOf words) xs))
+      ∙ judge-is-coverage n words xs 4 ok (omega arith) (omega arith))
 
   pub set-gates : (class : ℕ) (ws : List ℕ) → 2 ≤ class → class ≤ 4 → ws ≡ markAll (replicate 1024 0) (gateMarks n (gatesOf words) class) xs
-      → verdict (gateMarked ws) (classFaults n (gatesOf words) class) ≡ verdict (caughtBySome (gatesOf words) xs) (classFaults n (gatesOf words) class)
+      → verdict (gateMarked ws) (classFaults n (gatesOf words) class) ≡ verdict (caughtBySome (gatesOf words) xs)
+      (classFaults n (gatesOf words) class)
   set-gates class ws lo hi e = by-equal class 2 (λ q. rw q (set-two ws (rw q at e))) (λ d2. by-equal class 3
       (λ q. rw q (set-three ws (rw q at e)))
       (λ d3. let q : class ≡ 4 = omega arith in rw q (set-four ws (rw q at e))))

@@ -19,4 +19,5 @@ length-sites n gs i = length-lines-ones n
 pub length-stuck : (n : ℕ) (gs : List Gate) → length (stuckFaults n gs) ≡ 2 * (n * suc (length gs))
 length-stuck n gs =
     length-stuck-sites n gs
-    ∙ ap (λ s. 2 * s) (sum-cong _ (λ i. n) 0 (suc (length gs)) (λ i l m. length-sites n gs i) ∙ sum-same n 0 (suc (length gs)) ∙ mul-comm (suc (length gs)) n)
+    ∙ ap (λ s. 2 * s)
+    (sum-cong _ (λ i. n) 0 (suc (length gs)) (λ i l m. length-sites n gs i) ∙ sum-same n 0 (suc (length gs)) ∙ mul-comm (suc (length gs)) n)

@@ -62,8 +62,11 @@ module _ (gs : List Gate) (xs : List ℕ) (fs : List Fault) where
   unfolding left
   first-left f rest e =
       let r = first-kept (λ h. not (caughtBySome gs xs h)) fs f rest e in
-      let member = subst (List·Memᴰ f) (sym (r .parts)) (Memᴰ·append-right (r .before) (List·Memᴰ·head refl)) in
-      (member, not-true (caughtBySome gs xs f) (r .passes), (r .before, r .after, r .parts, all-map (λ h. not-false (caughtBySome gs xs h)) (r .before) (r .failed)))
+      let member = subst (List·Memᴰ f) (sym (r .parts)) (Memᴰ·append-right (r .before) (List·Memᴰ·head refl)) in (
+        member,
+        not-true (caughtBySome gs xs f) (r .passes),
+        (r .before, r .after, r .parts, all-map (λ h. not-false (caughtBySome gs xs h)) (r .before) (r .failed)),
+      )
 
   -- what is caught and what is left are all
   pub verdict-parts : length (caughtOf gs xs fs) + length (left gs xs fs) ≡ length fs

@@ -12,7 +12,6 @@ ghost use Rattle.judge.specs.Coverages.{emptyCoverage, withVector, isMar
 ghost use Rattle.judge.specs.Judging.{verdict};
 ghost use Rattle.judge.specs.Rules.{countRows};
 ghost use Rattle.judge.specs.Answers.{toldVerdict, toldBeside};
-
 use crate::Verdict;
 use crate::marks;
 use crate::rules;
@@ -46,7 +45,13 @@ impl Coverage {
         let missing_gates = [0u32; 1024];
         let missing_controls = [0u32; 1024];
         let extra_controls = [0u32; 1024];
-        Coverage { stuck_at_0, stuck_at_1, missing_gates, missing_controls, extra_controls }
+        Coverage {
+            stuck_at_0,
+            stuck_at_1,
+            missing_gates,
+            missing_controls,
+            extra_controls,
+        }
     }
 
     // The coverage with one vector added.
@@ -55,10 +60,19 @@ impl Coverage {
             × (r .coverage ≡ after (circuitRows lines (now (gates .entry)) ++ vectorRows lines vector) (withVector self lines (gatesOf (now (gates .entry))) vector) self) ⌝ }
     {
         match check_vector(lines, gates, vector) {
-            Checked::Wrong(refusal) => Covered { refusal, coverage: self },
+            Checked::Wrong(refusal) => Covered {
+                refusal,
+                coverage: self,
+            },
             Checked::Fine => {
                 let coverage = self.marked(lines, gates, vector);
-                Covered { refusal: Refusal { number: 0, place: 0 }, coverage }
+                Covered {
+                    refusal: Refusal {
+                        number: 0,
+                        place: 0,
+                    },
+                    coverage,
+                }
             }
         }
     }
@@ -89,7 +103,13 @@ impl Coverage {
         marks::mark_missing_gates(&mut missing_gates, lines, gates, vector);
         marks::mark_missing_controls(&mut missing_controls, lines, gates, vector);
         marks::mark_extra_controls(&mut extra_controls, lines, gates, vector);
-        Coverage { stuck_at_0, stuck_at_1, missing_gates, missing_controls, extra_controls }
+        Coverage {
+            stuck_at_0,
+            stuck_at_1,
+            missing_gates,
+            missing_controls,
+            extra_controls,
+        }
     }
 
     // The verdict on the marks of a class.

@@ -6,7 +6,6 @@ ghost use Rattle.judge.specs.Classes.{classFaults};
 ghost use Rattle.judge.specs.Judging.{caughtBySome, verdict};
 ghost use Rattle.judge.specs.Rules.{judgeRows};
 ghost use Rattle.judge.specs.Answers.{toldVerdict};
-
 use refusals::Checked;
 use refusals::Refusal;
 use simulator::Fault;
@@ -19,8 +18,15 @@ pub mod tallies;
 
 // The verdict on a set for a class.
 pub enum Verdict {
-    Complete { caught: u32, total: u32 },
-    Left { caught: u32, total: u32, first: Fault },
+    Complete {
+        caught: u32,
+        total: u32,
+    },
+    Left {
+        caught: u32,
+        total: u32,
+        first: Fault,
+    },
     Refused(Refusal),
 }
 

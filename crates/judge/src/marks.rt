@@ -6,7 +6,6 @@ ghost use Rattle.circuit.specs.Gates.{gatesOf};
 ghost use Rattle.circuit.specs.Runs.{fires};
 ghost use Rattle.circuit.specs.Sound.{Sound};
 ghost use Rattle.judge.specs.Coverages.{marked, levelMarks, gateMarks};
-
 use circuit::Gate;
 use circuit::checked::fires;
 use circuit::checked::gate_at;
@@ -15,7 +14,13 @@ use circuit::numbers;
 use words;
 
 // Class 1: a line stuck at 0 is caught where it is 1, and one stuck at 1 where it is 0.
-pub fn mark_levels(at_0: &mut [u32; 1025], at_1: &mut [u32; 1025], lines: u32, gates: &[u32], vector: u32)
+pub fn mark_levels(
+    at_0: &mut [u32; 1025],
+    at_1: &mut [u32; 1025],
+    lines: u32,
+    gates: &[u32],
+    vector: u32,
+)
     requires { ⌜ Sound lines (now gates) ⌝ }
     requires { ⌜ vector < 2 ^ lines ⌝ }
     ensures { λ _. ⌜ (now (at_0 .exit) ≡ marked (now (at_0 .entry)) (levelMarks lines (gatesOf (now (gates .entry))) 0 vector))
@@ -28,7 +33,10 @@ pub fn mark_levels(at_0: &mut [u32; 1025], at_1: &mut [u32; 1025], lines: u32, g
     while i < end {
         at_0[i] |= state;
         at_1[i] |= state ^ ones;
-        state = step(gate_at(gates, numbers::gate_after(numbers::level(i))), state);
+        state = step(
+            gate_at(gates, numbers::gate_after(numbers::level(i))),
+            state,
+        );
         i += 1;
     }
     at_0[end] |= state;

@@ -3,7 +3,6 @@ ghost use mathlib.Core.Path.{_≡_};
 ghost use Rattle.refusals.specs.Tables.{firstOf};
 ghost use Rattle.refusals.specs.Checks.{fine, found};
 ghost use Rattle.judge.specs.Rules.{classRows, judgeRows, countRows};
-
 use circuit::rules::check_circuit;
 use circuit::rules::check_set;
 use refusals::Checked;
@@ -15,7 +14,10 @@ pub fn check_class(class: u32) -> Checked
 {
     match class {
         1..=4 => Checked::Fine,
-        0 | 5..=4294967295 => Checked::Wrong(Refusal { number: 9, place: 1 }),
+        0 | 5..=4294967295 => Checked::Wrong(Refusal {
+            number: 9,
+            place: 1,
+        }),
     }
 }
 

@@ -8,13 +8,18 @@ ghost use Rattle.judge.specs.Classes.{stuckFaults, classFaults};
 ghost use Rattle.judge.specs.Coverages.{markAll, levelMarks, gateMarks};
 ghost use Rattle.judge.specs.Judging.{caughtBySome, verdict};
 ghost use Rattle.judge.specs.Answers.{toldVerdict};
-
 use crate::Verdict;
 use crate::marks;
 use crate::tallies;
 
 // The marks of a set's vectors, level by level.
-fn mark_set_levels(at_0: &mut [u32; 1025], at_1: &mut [u32; 1025], lines: u32, gates: &[u32], vectors: &[u32])
+fn mark_set_levels(
+    at_0: &mut [u32; 1025],
+    at_1: &mut [u32; 1025],
+    lines: u32,
+    gates: &[u32],
+    vectors: &[u32],
+)
     requires { ⌜ Sound lines (now gates) ⌝ }
     requires { ⌜ All (λ x. x < 2 ^ lines) (now vectors) ⌝ }
     ensures { λ _. ⌜ (now (at_0 .exit) ≡ markAll (now (at_0 .entry)) (levelMarks lines (gatesOf (now (gates .entry))) 0) (now (vectors .entry)))
@@ -36,8 +41,8 @@ fn mark_set_gates(class: u32, words: &mut [u32; 1024], lines: u32, gates: &[u32]
 {
     let mut i = 0;
     while i < vectors.len() {
-        let vector = vectors[i];
-        marks::mark_gates(class, words, lines, gates, vector);
+        let input = vectors[i];
+        marks::mark_gates(class, words, lines, gates, input);
         i += 1;
     }
 }

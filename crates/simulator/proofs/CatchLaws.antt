@@ -55,7 +55,9 @@ module _ (n : ℕ) (gs : List Gate) (ok : AllOk n gs) (f : Fault) (x : ℕ) wher
   -- extra control: exactly when it is 0 and all controls are 1
   pub extra-control-differs : 1 ≤ f .place → f .place ≤ length gs → f .class ≡ 4 → isControl (gateAt gs (f .place)) (f .line) ≡ false
       → (faulty gs f x ≢ run gs x)
-      ↔ ((bit (forward gs (f .place - 1) x) (f .line) ≡ 0) × ((j : ℕ) → isControl (gateAt gs (f .place)) j ≡ true → bit (forward gs (f .place - 1) x) j ≡ 1))
+      ↔ ((bit (forward gs (f .place - 1) x) (f .line) ≡ 0)
+      × ((j : ℕ) → isControl (gateAt gs (f .place)) j ≡ true → bit (forward gs (f .place - 1) x) j ≡ 1))
   extra-control-differs lo hi e c =
       let s : ℕ = forward gs (f .place - 1) x in
-      differ-iff gs f x _ (extra-control-caught n gs ok f lo hi x e c) (zero-and-fires s (f .line) (gateAt gs (f .place)) (fires-iff (gateAt gs (f .place)) s))
+      differ-iff gs f x _ (extra-control-caught n gs ok f lo hi x e c)
+      (zero-and-fires s (f .line) (gateAt gs (f .place)) (fires-iff (gateAt gs (f .place)) s))

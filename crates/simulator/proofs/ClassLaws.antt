@@ -15,7 +15,8 @@ use Rattle.circuit.proofs.RuleLaws.{gate-ok}
 use Rattle.simulator.specs.Rules.{isFault}
 use Rattle.simulator.specs.Entries.{StuckOk}
 use Rattle.simulator.specs.declared.Fault.{Fault}
-use Rattle.simulator.proofs.RuleLaws.{class-one, class-two, class-three, class-four, class-last, stuck-at-ok, missing-gate-ok, missing-control-ok, extra-control-ok, missing-gate-value, missing-control-value, extra-control-value}
+use Rattle.simulator.proofs.RuleLaws.{class-one, class-two, class-three, class-four, class-last, stuck-at-ok, missing-gate-ok}
+use Rattle.simulator.proofs.RuleLaws.{missing-control-ok, extra-control-ok, missing-gate-value, missing-control-value, extra-control-value}
 
 module _ (n : ℕ) (words : List ℕ) (f : Fault) (ok : Sound n words) (is : isFault n (gatesOf words) f ≡ true) where
   pub stuck-fault : f .class ≡ 1 → StuckOk n (length (gatesOf words)) f

@@ -93,8 +93,10 @@ pub stuck-one : (gs : List Gate) (f : Fault) (x : ℕ) → f .place ≤ length g
 unfolding forward forceAt
 stuck-one gs f x h =
     stuck-from (f ∷ []) 0 (f .place) (f .place) gs x (zero-add (f .place)) h (le-refl (f .place), tt)
-    ∙ ap (λ s. run (drop (f .place) gs) (forceAt (f ∷ []) (f .place) s)) (arrive-quiet (f ∷ []) 0 (f .place) (f .place) gs x (zero-add (f .place)) (le-refl (f .place), tt))
-    ∙ ap (run (drop (f .place) gs)) (pick-true (eq-eqb (f .place) (f .place) refl) (force (forward gs (f .place) x) (f .line) (f .value)) (forward gs (f .place) x))
+    ∙ ap (λ s. run (drop (f .place) gs) (forceAt (f ∷ []) (f .place) s))
+    (arrive-quiet (f ∷ []) 0 (f .place) (f .place) gs x (zero-add (f .place)) (le-refl (f .place), tt))
+    ∙ ap (run (drop (f .place) gs))
+    (pick-true (eq-eqb (f .place) (f .place) refl) (force (forward gs (f .place) x) (f .line) (f .value)) (forward gs (f .place) x))
 
 -- the faulty run of class 1
 pub faulty-stuck : (gs : List Gate) (f : Fault) (x : ℕ) → f .class ≡ 1 → faulty gs f x ≡ stuckRun (f ∷ []) 0 gs x
@@ -119,7 +121,8 @@ unfolding forward run gateAt changed
 run-changed h gs zero x lo hi = absurd (omega arith)
 run-changed h [] (suc i) x lo hi = absurd (not-suc-le-zero hi)
 run-changed h (g ∷ gs) (suc zero) x lo hi = refl
-run-changed h (g ∷ gs) (suc (suc i)) x lo hi = rw (suc-sub-one (suc i)) (simp (suc-sub-one i) at (run-changed h gs (suc i) (step g x) (omega arith) (le-of-suc-le-suc hi)))
+run-changed h (g ∷ gs) (suc (suc i)) x lo hi = rw (suc-sub-one (suc i))
+    (simp (suc-sub-one i) at (run-changed h gs (suc i) (step g x) (omega arith) (le-of-suc-le-suc hi)))
 
 -- no gate in its place
 pub run-without : (gs : List Gate) (p x : ℕ) → run (without p gs) x ≡ run (drop p gs) (forward gs (p - 1) x)
@@ -131,7 +134,8 @@ pub faulty-missing-gate : (gs : List Gate) (f : Fault) (x : ℕ) → f .class �
 unfolding faulty
 faulty-missing-gate gs f x e = pick-false (ne-eqb (f .class) 1 (omega arith)) _ _ ∙ pick-true (eq-eqb (f .class) 2 e) _ _
 
-pub faulty-missing-control : (gs : List Gate) (f : Fault) (x : ℕ) → f .class ≡ 3 → faulty gs f x ≡ run (changed (lessControl (f .line)) (f .place) gs) x
+pub faulty-missing-control : (gs : List Gate) (f : Fault) (x : ℕ) → f .class ≡ 3
+    → faulty gs f x ≡ run (changed (lessControl (f .line)) (f .place) gs) x
 unfolding faulty
 faulty-missing-control gs f x e =
     pick-false (ne-eqb (f .class) 1 (omega arith)) _ _ ∙ pick-false (ne-eqb (f .class) 2 (omega arith)) _ _ ∙ pick-true (eq-eqb (f .class) 3 e) _ _
@@ -139,7 +143,8 @@ faulty-missing-control gs f x e =
 pub faulty-extra-control : (gs : List Gate) (f : Fault) (x : ℕ) → f .class ≡ 4 → faulty gs f x ≡ run (changed (moreControl (f .line)) (f .place) gs) x
 unfolding faulty
 faulty-extra-control gs f x e =
-    pick-false (ne-eqb (f .class) 1 (omega arith)) _ _ ∙ pick-false (ne-eqb (f .class) 2 (omega arith)) _ _ ∙ pick-false (ne-eqb (f .class) 3 (omega arith)) _ _
+    pick-false (ne-eqb (f .class) 1 (omega arith)) _ _ ∙ pick-false (ne-eqb (f .class) 2 (omega arith)) _ _
+    ∙ pick-false (ne-eqb (f .class) 3 (omega arith)) _ _
 
 module _ (n : ℕ) (gs : List Gate) (ok : AllOk n gs) (f : Fault) (lo : 1 ≤ f .place) (hi : f .place ≤ length gs) (x : ℕ) where
   -- a fault of one gate is caught where it makes another state than the gate
@@ -155,7 +160,8 @@ module _ (n : ℕ) (gs : List Gate) (ok : AllOk n gs) (f : Fault) (lo : 1 ≤ f 
 
   -- a missing control is caught where it is 0 and all other controls are 1
   pub missing-control-caught : f .class ≡ 3 → isControl (gateAt gs (f .place)) (f .line) ≡ true
-      → caught gs f x ≡ (eqb (bit (forward gs (f .place - 1) x) (f .line)) 0 && fires (lessControl (f .line) (gateAt gs (f .place))) (forward gs (f .place - 1) x))
+      → caught gs f x ≡
+      (eqb (bit (forward gs (f .place - 1) x) (f .line)) 0 && fires (lessControl (f .line) (gateAt gs (f .place))) (forward gs (f .place - 1) x))
   missing-control-caught e c =
       let g : Gate = gateAt gs (f .place) in
       let s : ℕ = forward gs (f .place - 1) x in

@@ -28,7 +28,8 @@ four i k = omega arith
 
 -- the record after i others has the four words from 4 * i
 record-four : (list : List ℕ) (i : ℕ) → i < length (faultsOf list)
-    → record { class = getD list (4 * i) 0; place = getD list (4 * i + 1) 0; line = getD list (4 * i + 2) 0; value = getD list (4 * i + 3) 0 } ≡ getD (faultsOf list) i noFault
+    → record { class = getD list (4 * i) 0; place = getD list (4 * i + 1) 0; line = getD list (4 * i + 2) 0; value = getD list (4 * i + 3) 0 } ≡ getD
+    (faultsOf list) i noFault
 unfolding faultsOf
 record-four [] i h = absurd (not-suc-le-zero h)
 record-four (c ∷ []) i h = absurd (not-suc-le-zero h)
@@ -40,15 +41,18 @@ record-four (c ∷ p ∷ l ∷ v ∷ rest) (suc i) h =
     rw (four i 1, four i 2, four i 3, e0) (record-four rest i (omega arith))
 
 pub record-words : (list : List ℕ) (i : ℕ) → 4 * i + 4 ≤ length list
-    → record { class = getD list (4 * i) 0; place = getD list (4 * i + 1) 0; line = getD list (4 * i + 2) 0; value = getD list (4 * i + 3) 0 } ≡ getD (faultsOf list) i noFault
+    → record { class = getD list (4 * i) 0; place = getD list (4 * i + 1) 0; line = getD list (4 * i + 2) 0; value = getD list (4 * i + 3) 0 } ≡ getD
+    (faultsOf list) i noFault
 record-words list i h = record-four list i (omega (arith, records-count list))
 
 -- a site named twice, from record i on: by the record and a later one, by later ones alone, and the end
-pub twice-found : (fs : List Fault) (i : ℕ) → i < length fs → some (sameSite (getD fs i noFault)) (drop (i + 1) fs) ≡ true → siteTwice (drop i fs) ≡ true
+pub twice-found : (fs : List Fault) (i : ℕ) → i < length fs → some (sameSite (getD fs i noFault)) (drop (i + 1) fs) ≡ true
+    → siteTwice (drop i fs) ≡ true
 unfolding siteTwice
 twice-found fs i h e = rw (drop-cons fs i noFault h, rw (add-one i) at e)
 
-pub twice-passed : (fs : List Fault) (i : ℕ) → i < length fs → some (sameSite (getD fs i noFault)) (drop (i + 1) fs) ≡ false → siteTwice (drop i fs) ≡ siteTwice (drop (i + 1) fs)
+pub twice-passed : (fs : List Fault) (i : ℕ) → i < length fs → some (sameSite (getD fs i noFault)) (drop (i + 1) fs) ≡ false
+    → siteTwice (drop i fs) ≡ siteTwice (drop (i + 1) fs)
 unfolding siteTwice
 twice-passed fs i h e = rw (add-one i, drop-cons fs i noFault h, rw (add-one i) at e)
 

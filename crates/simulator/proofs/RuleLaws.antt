@@ -27,7 +27,8 @@ use Rattle.circuit.specs.Sound.{Sound}
 use Rattle.circuit.specs.declared.Gate.{Gate}
 use Rattle.circuit.proofs.RuleLaws.{sound, VectorOk, vector-ok}
 use Rattle.simulator.specs.Sites.{sites}
-use Rattle.simulator.specs.Rules.{isStuckAt, isGate, isMissingGate, isMissingControl, isExtraControl, isFault, faultRows, catchRows, testRows, faultsOf, firstBadRecord}
+use Rattle.simulator.specs.Rules.{isStuckAt, isGate, isMissingGate, isMissingControl, isExtraControl, isFault, faultRows, catchRows, testRows}
+use Rattle.simulator.specs.Rules.{faultsOf, firstBadRecord}
 use Rattle.simulator.specs.Multiple.{badEntry, siteTwice, entriesRows, multipleRows}
 use Rattle.simulator.specs.Entries.{StuckOk, Entries}
 use Rattle.simulator.specs.declared.Fault.{Fault}
@@ -48,7 +49,8 @@ module _ (n : ℕ) (gs : List Gate) (f : Fault) where
   pub class-three : f .class ≡ 3 → isFault n gs f ≡ isMissingControl gs f
   unfolding isFault
   class-three e =
-      pick-false (ne-eqb (f .class) 1 (λ q. omega arith)) _ _ ∙ pick-false (ne-eqb (f .class) 2 (λ q. omega arith)) _ _ ∙ pick-true (eq-eqb (f .class) 3 e) _ _
+      pick-false (ne-eqb (f .class) 1 (λ q. omega arith)) _ _ ∙ pick-false (ne-eqb (f .class) 2 (λ q. omega arith)) _ _
+      ∙ pick-true (eq-eqb (f .class) 3 e) _ _
 
   pub class-four : f .class ≡ 4 → isFault n gs f ≡ isExtraControl n gs f
   unfolding isFault
@@ -64,7 +66,8 @@ module _ (n : ℕ) (gs : List Gate) (f : Fault) where
 
   -- a fault that is of none of the first three is of the fourth
   pub class-last : isFault n gs f ≡ true → f .class ≢ 1 → f .class ≢ 2 → f .class ≢ 3 → f .class ≡ 4
-  class-last t a b c = by-test (eqb (f .class) 4) (eqb-true (f .class) 4) (λ e. absurd (true≢false (sym t ∙ class-none a b c (λ q. true≢false (sym (eq-eqb (f .class) 4 q) ∙ e)))))
+  class-last t a b c = by-test (eqb (f .class) 4) (eqb-true (f .class) 4)
+      (λ e. absurd (true≢false (sym t ∙ class-none a b c (λ q. true≢false (sym (eq-eqb (f .class) 4 q) ∙ e)))))
 
   -- ---- gates are numbered from 1 to the last
 
@@ -100,7 +103,8 @@ module _ (n : ℕ) (gs : List Gate) (f : Fault) where
       let p = gate-in (w .0) in
       (p .0, p .1, eqb-true (f .line) 0 (and-both (eqb (f .line) 0) (eqb (f .value) 0) (w .1) .0))
 
-  pub missing-control-ok : isMissingControl gs f ≡ true → (1 ≤ f .place) × (f .place ≤ length gs) × (isControl (gateAt gs (f .place)) (f .line) ≡ true)
+  pub missing-control-ok : isMissingControl gs f ≡ true
+      → (1 ≤ f .place) × (f .place ≤ length gs) × (isControl (gateAt gs (f .place)) (f .line) ≡ true)
   unfolding isMissingControl
   missing-control-ok t =
       let w = and-both (isGate gs (f .place)) _ t in
@@ -123,7 +127,8 @@ module _ (n : ℕ) (gs : List Gate) (f : Fault) where
 
   pub missing-control-value : isMissingControl gs f ≡ true → f .value ≡ 0
   unfolding isMissingControl
-  missing-control-value t = eqb-true (f .value) 0 (and-both (isControl (gateAt gs (f .place)) (f .line)) _ (and-both (isGate gs (f .place)) _ t .1) .1)
+  missing-control-value t =
+      eqb-true (f .value) 0 (and-both (isControl (gateAt gs (f .place)) (f .line)) _ (and-both (isGate gs (f .place)) _ t .1) .1)
 
   pub extra-control-value : isExtraControl n gs f ≡ true → f .value ≡ 0
   unfolding isExtraControl
@@ -201,7 +206,8 @@ multiple-ok n words x list e =
 
 -- which test of the entries breaks which rule
 module _ (n : ℕ) (words list : List ℕ) where
-  pub entries-bad : (bad : ℕ) → bad ≡ firstBadRecord (badEntry n (gatesOf words)) list → bad ≢ 0 → refused 9 (inWord bad) ≡ firstOf (entriesRows n words list) fine
+  pub entries-bad : (bad : ℕ) → bad ≡ firstBadRecord (badEntry n (gatesOf words)) list → bad ≢ 0
+      → refused 9 (inWord bad) ≡ firstOf (entriesRows n words list) fine
   unfolding entriesRows
   entries-bad bad e d = rw (← e, ne-eqb bad 0 d)
 
@@ -221,4 +227,11 @@ module _ (n : ℕ) (words list : List ℕ) where
     unfolding entriesRows
     entries-twice twice e d h =
         let number = records-count list in
-        rw (← is, eq-eqb bad 0 none, ne-eqb (length (faultsOf list)) 0 (λ q. d (sym number ∙ q)), le-ltb 256 (length (faultsOf list)) (omega arith), ← e, not-not twice)
+        rw (
+          ← is,
+          eq-eqb bad 0 none,
+          ne-eqb (length (faultsOf list)) 0 (λ q. d (sym number ∙ q)),
+          le-ltb 256 (length (faultsOf list)) (omega arith),
+          ← e,
+          not-not twice,
+        )

@@ -41,7 +41,8 @@ unfolding stuckRun
 stuck-end fs gs i s h = rw (drop-of-length-le gs h)
 
 -- the line of an entry is a line of the word
-pub entry-line : (n : ℕ) (words list : List ℕ) (i : ℕ) → Sound n words → Entries n (gatesOf words) list → i < length (faultsOf list) → getD (faultsOf list) i noFault .line < 32
+pub entry-line : (n : ℕ) (words list : List ℕ) (i : ℕ) → Sound n words → Entries n (gatesOf words) list → i < length (faultsOf list)
+    → getD (faultsOf list) i noFault .line < 32
 entry-line n words list i ok entries h =
     let f = all-at (StuckOk n (length (gatesOf words))) (faultsOf list) i noFault h (entries .entries-ok) in
     omega arith

@@ -73,7 +73,8 @@ module _ (n : ℕ) (words : List ℕ) (f : Fault) (ok : Sound n words) (is : isF
   catches-stuck : f .class ≡ 1 → caught (gatesOf words) f (testFor n (gatesOf words) f) ≡ true
   catches-stuck e =
       let k = stuck-fault n words f ok is e in
-      let there : forward (gatesOf words) (f .place) (testFor n (gatesOf words) f) ≡ testState n f = ap (λ i. forward (gatesOf words) i (testFor n (gatesOf words) f)) (sym (level-stuck f e)) ∙ seen in
+      let there : forward (gatesOf words) (f .place) (testFor n (gatesOf words) f) ≡ testState n f = ap
+      (λ i. forward (gatesOf words) i (testFor n (gatesOf words) f)) (sym (level-stuck f e)) ∙ seen in
       stuck-caught n (gatesOf words) (ok .gates-ok) f k (testFor n (gatesOf words) f)
       ∙ ap (λ s. not (eqb (bit s (f .line)) (f .value))) there
       ∙ ap not (ne-eqb (bit (testState n f) (f .line)) (f .value) (λ same. by-equal (f .value) 1
@@ -98,8 +99,10 @@ module _ (n : ℕ) (words : List ℕ) (f : Fault) (ok : Sound n words) (is : isF
       let w = names-gate n words f ok is d in
       let c = is-missing n words f ok is e in
       missing-control-caught n (gatesOf words) (ok .gates-ok) f (w .0) (w .1) (testFor n (gatesOf words) f) e c
-      ∙ ap (λ s. eqb (bit s (f .line)) 0 && fires (lessControl (f .line) (gateAt (gatesOf words) (f .place))) s) (read d ∙ state-missing-control n f e)
-      ∙ and-true (eq-eqb _ 0 (zero-there n f)) (less-fires-but n (gateAt (gatesOf words) (f .place)) (f .line) (gate-ok n words (f .place) ok (w .0) (w .1)) c)
+      ∙ ap (λ s. eqb (bit s (f .line)) 0 && fires (lessControl (f .line) (gateAt (gatesOf words) (f .place))) s)
+      (read d ∙ state-missing-control n f e)
+      ∙ and-true (eq-eqb _ 0 (zero-there n f))
+      (less-fires-but n (gateAt (gatesOf words) (f .place)) (f .line) (gate-ok n words (f .place) ok (w .0) (w .1)) c)
 
   catches-extra-control : f .class ≡ 4 → caught (gatesOf words) f (testFor n (gatesOf words) f) ≡ true
   catches-extra-control e =
@@ -108,11 +111,13 @@ module _ (n : ℕ) (words : List ℕ) (f : Fault) (ok : Sound n words) (is : isF
       let c = is-extra n words f ok is e in
       extra-control-caught n (gatesOf words) (ok .gates-ok) f (w .0) (w .1) (testFor n (gatesOf words) f) e c
       ∙ ap (λ s. eqb (bit s (f .line)) 0 && fires (gateAt (gatesOf words) (f .place)) s) (read d ∙ state-extra-control n f e)
-      ∙ and-true (eq-eqb _ 0 (zero-there n f)) (fires-but n (gateAt (gatesOf words) (f .place)) (f .line) (gate-ok n words (f .place) ok (w .0) (w .1)) c)
+      ∙ and-true (eq-eqb _ 0 (zero-there n f))
+      (fires-but n (gateAt (gatesOf words) (f .place)) (f .line) (gate-ok n words (f .place) ok (w .0) (w .1)) c)
 
   -- the test for a fault catches it
   pub test-catches : caught (gatesOf words) f (testFor n (gatesOf words) f) ≡ true
-  test-catches = by-equal (f .class) 1 catches-stuck (λ d1. by-equal (f .class) 2 catches-missing-gate (λ d2. by-equal (f .class) 3 catches-missing-control
+  test-catches =
+      by-equal (f .class) 1 catches-stuck (λ d1. by-equal (f .class) 2 catches-missing-gate (λ d2. by-equal (f .class) 3 catches-missing-control
       (λ d3. catches-extra-control (class-last n (gatesOf words) f is d1 d2 d3))))
 
 -- and it is a vector of the circuit

@@ -17,11 +17,13 @@ use Rattle.circuit.proofs.RunLaws.{level-step}
 use Rattle.circuit.proofs.NoControlLaws.{less-same, more-same, control-off}
 use Rattle.simulator.specs.Faults.{faulty, caught}
 use Rattle.simulator.specs.declared.Fault.{Fault}
-use Rattle.simulator.proofs.FaultLaws.{caught-at, run-changed, faulty-missing-control, faulty-extra-control, missing-control-caught, extra-control-caught}
+use Rattle.simulator.proofs.FaultLaws.{caught-at, run-changed, faulty-missing-control, faulty-extra-control, missing-control-caught}
+use Rattle.simulator.proofs.FaultLaws.{extra-control-caught}
 
 module _ (n : ℕ) (gs : List Gate) (ok : AllOk n gs) (f : Fault) (lo : 1 ≤ f .place) (hi : f .place ≤ length gs) (x : ℕ) where
   -- a fault that leaves a gate as it is
-  unchanged : (h : Gate) → h ≡ gateAt gs (f .place) → faulty gs f x ≡ run (drop (f .place) gs) (step h (forward gs (f .place - 1) x)) → caught gs f x ≡ false
+  unchanged : (h : Gate) → h ≡ gateAt gs (f .place) → faulty gs f x ≡ run (drop (f .place) gs) (step h (forward gs (f .place - 1) x))
+      → caught gs f x ≡ false
   unchanged h q e =
       let s : ℕ = forward gs (f .place - 1) x in
       caught-at n gs ok f x (f .place) (step h s) e

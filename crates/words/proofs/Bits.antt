@@ -60,7 +60,8 @@ lt-pow-self (suc n) = omega (arith, lt-pow-self n)
 
 pub word-ext-all : (a b : ℕ) → ((j : ℕ) → bit a j ≡ bit b j) → a ≡ b
 word-ext-all a b h =
-    word-ext (a + b) a b (lt-of-lt-of-le (lt-pow-self a) (pow-mono (le-add-right a b))) (lt-of-lt-of-le (lt-pow-self b) (pow-mono (le-add-left b a))) (λ j l. h j)
+    word-ext (a + b) a b (lt-of-lt-of-le (lt-pow-self a) (pow-mono (le-add-right a b))) (lt-of-lt-of-le (lt-pow-self b) (pow-mono (le-add-left b a)))
+    (λ j l. h j)
 
 -- a word with one line on
 pub bit-one-line : (j : ℕ) → bit (2 ^ j) j ≡ 1

@@ -19,7 +19,8 @@ flip-odd x = ap (λ y. flip y 0) (sym (flip-even x)) ∙ flip-flip (x * 2) 0
 pub flip-upper : (x r t : ℕ) → r < 2 → flip (x * 2 + r) (suc t) ≡ flip x t * 2 + r
 unfolding flip
 flip-upper x r t h =
-    ap (bitXor (x * 2 + r)) (pow-suc 2 t ∙ sym (add-zero (2 ^ t * 2))) ∙ xor-block 1 x (2 ^ t) r 0 h (lit< tt) ∙ ap (λ y. bitXor x (2 ^ t) * 2 + y) (xor-zero-r r)
+    ap (bitXor (x * 2 + r)) (pow-suc 2 t ∙ sym (add-zero (2 ^ t * 2))) ∙ xor-block 1 x (2 ^ t) r 0 h (lit< tt)
+    ∙ ap (λ y. bitXor x (2 ^ t) * 2 + y) (xor-zero-r r)
 
 pub flip-upper-even : (x t : ℕ) → flip (x * 2) (suc t) ≡ flip x t * 2
 flip-upper-even x t = ap (λ y. flip y (suc t)) (sym (add-zero (x * 2))) ∙ flip-upper x 0 t (lit< tt) ∙ add-zero (flip x t * 2)

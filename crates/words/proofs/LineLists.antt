@@ -28,11 +28,13 @@ module _ (P : ℕ → Type 0) (n w : ℕ) where
   pub lines-all : All P (linesOn n w) → (j : ℕ) → j < n → bit w j ≡ 1 → P j
   unfolding linesOn
   lines-all a j h o =
-      upFrom-all (λ k. eqb (bit w k) 1 ≡ true → P k) 0 n (kept-all P (λ k. eqb (bit w k) 1) (upFrom 0 n) a) j zero-le (omega arith) (eq-eqb (bit w j) 1 o)
+      upFrom-all (λ k. eqb (bit w k) 1 ≡ true → P k) 0 n (kept-all P (λ k. eqb (bit w k) 1) (upFrom 0 n) a) j zero-le (omega arith)
+      (eq-eqb (bit w j) 1 o)
 
 -- all n lines of the word whose lines are all 1
 pub length-lines-ones : (n : ℕ) → length (linesOn n (allOnes n)) ≡ n
 unfolding linesOn
 length-lines-ones n =
-    ap length (keep-every (λ j. eqb (bit (allOnes n) j) 1) (upFrom 0 n) (all-upFrom _ 0 n (λ j l m. eq-eqb (bit (allOnes n) j) 1 (bit-all-ones n j (omega arith)))))
+    ap length (keep-every (λ j. eqb (bit (allOnes n) j) 1) (upFrom 0 n)
+    (all-upFrom _ 0 n (λ j l m. eq-eqb (bit (allOnes n) j) 1 (bit-all-ones n j (omega arith)))))
     ∙ length-upFrom 0 n

@@ -26,7 +26,8 @@ one-line : (n w j k : ℕ) → length (linesOn n w) ≡ 1 → j < n → bit w j 
 unfolding linesOn
 one-line n w j k e jn jo kn ko = by-equal j k (λ q. q) (λ d. absurd (by-cases (decLe j k)
     (λ l. omega (arith, kept-two (λ i. eqb (bit w i) 1) 0 n j k (eq-eqb (bit w j) 1 jo) (eq-eqb (bit w k) 1 ko) zero-le (omega arith) (omega arith)))
-    (λ l. omega (arith, kept-two (λ i. eqb (bit w i) 1) 0 n k j (eq-eqb (bit w k) 1 ko) (eq-eqb (bit w j) 1 jo) zero-le (omega arith) (omega arith)))))
+    (λ l. omega
+    (arith, kept-two (λ i. eqb (bit w i) 1) 0 n k j (eq-eqb (bit w k) 1 ko) (eq-eqb (bit w j) 1 jo) zero-le (omega arith) (omega arith)))))
 
 -- one line where no other is 1
 line-one : (n w j : ℕ) → j < n → bit w j ≡ 1 → ((k : ℕ) → j ≢ k → bit w k ≢ 1) → length (linesOn n w) ≡ 1

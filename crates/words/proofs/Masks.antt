@@ -18,7 +18,8 @@ pub all-on-iff : (mask s : ℕ) → (allOn mask s ≡ true) ↔ ((j : ℕ) → b
 unfolding allOn
 all-on-iff mask s = (
   λ t j e.
-      let seen : bitAnd (bit s j) 1 ≡ 1 = ap (bitAnd (bit s j)) (sym e) ∙ sym (bit-and s mask j) ∙ ap (λ x. bit x j) (eqb-true (bitAnd s mask) mask t) ∙ e in
+      let seen : bitAnd (bit s j) 1 ≡ 1 = ap (bitAnd (bit s j)) (sym e) ∙ sym (bit-and s mask j)
+      ∙ ap (λ x. bit x j) (eqb-true (bitAnd s mask) mask t) ∙ e in
       by-bit s j (λ z. z ∙ ap (λ x. bitAnd x 1) (sym z) ∙ seen) (λ o. o),
   λ h. eq-eqb (bitAnd s mask) mask (word-ext-all (bitAnd s mask) mask (λ j.
       bit-and s mask j ∙ by-bit mask j (λ z. rw z (and-zero-r (bit s j))) (λ o. rw (o, h j o)))),

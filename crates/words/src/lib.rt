@@ -25,5 +25,9 @@ pub fn lone_zero(mask: u32, word: u32) -> u32
     ensures { λ r. ⌜ r ≡ loneZero mask word ⌝ }
 {
     let lacks = (word & mask) ^ mask;
-    if u32::count_ones(lacks) == 1 { lacks } else { 0 }
+    if u32::count_ones(lacks) == 1 {
+        lacks
+    } else {
+        0
+    }
 }

@@ -25,20 +25,23 @@ run-forward-requires : tie.Need-run-forward-requires
 run-forward-requires c κs =
     let e = c .before in
     let a = e .before .before .before .before .args in
-    let ok = run-ok (a .lines) (a .gates .now) (a .level) (a .state) (ap found (sym (e .enum-told .given .1)) ∙ e .before .before .check-run .ensures) in
+    let ok = run-ok (a .lines) (a .gates .now) (a .level) (a .state)
+    (ap found (sym (e .enum-told .given .1)) ∙ e .before .before .check-run .ensures) in
     (ok .state .circuit, omega arith)
 
 returns : tie.Need-returns
 returns c =
     let a = c .before .before .before .before .before .args in
-    refused-all (runRows (a .lines) (a .gates .now) (a .level) (a .state)) _ _ _ (ap found (sym (c .before .refusal .given .1)) ∙ c .before .before .before .check-run .ensures)
+    refused-all (runRows (a .lines) (a .gates .now) (a .level) (a .state)) _ _ _
+    (ap found (sym (c .before .refusal .given .1)) ∙ c .before .before .before .check-run .ensures)
 
 returns-2 : tie.Need-returns-2
 returns-2 c =
     let e = c .before .before in
     let a = e .before .before .before .before .args in
     rw (c .run-forward .ensures, c .before .level .ensures)
-    (fine-all (runRows (a .lines) (a .gates .now) (a .level) (a .state)) _ (ap found (sym (e .enum-told .given .1)) ∙ e .before .before .check-run .ensures))
+    (fine-all (runRows (a .lines) (a .gates .now) (a .level) (a .state)) _
+    (ap found (sym (e .enum-told .given .1)) ∙ e .before .before .check-run .ensures))
 
 pub forward-spec : {M : Type 1} → statement M
 forward-spec =

@@ -20,7 +20,8 @@ enum-told c = search needs
 catches-requires : tie.Need-catches-requires
 catches-requires c κs =
     let a = c .before .before .before .before .args in
-    let ok = catch-ok (a .lines) (a .gates .now) (a .vector) (a .fault) (ap found (sym (c .enum-told .given .1)) ∙ c .before .before .check-catch .ensures) in
+    let ok = catch-ok (a .lines) (a .gates .now) (a .vector) (a .fault)
+    (ap found (sym (c .enum-told .given .1)) ∙ c .before .before .check-catch .ensures) in
     (ok .vector .circuit, ok .fault)
 
 yes-or-no-requires : tie.Need-yes-or-no-requires
@@ -29,7 +30,8 @@ yes-or-no-requires c κs = search needs
 returns : tie.Need-returns
 returns c =
     let a = c .before .before .before .before .before .args in
-    refused-all (catchRows (a .lines) (a .gates .now) (a .vector) (a .fault)) _ _ _ (ap found (sym (c .before .refusal .given .1)) ∙ c .before .before .before .check-catch .ensures)
+    refused-all (catchRows (a .lines) (a .gates .now) (a .vector) (a .fault)) _ _ _
+    (ap found (sym (c .before .refusal .given .1)) ∙ c .before .before .before .check-catch .ensures)
 
 returns-2 : tie.Need-returns-2
 returns-2 c =

@@ -20,7 +20,8 @@ enum-told c = search needs
 catches-multiple-requires : tie.Need-catches-multiple-requires
 catches-multiple-requires c κs =
     let a = c .before .before .before .before .before .args in
-    let ok = multiple-ok (a .lines) (a .gates .now) (a .vector) (a .entries .now) (ap found (sym (c .enum-told .given .1)) ∙ c .before .before .check-multiple .ensures) in
+    let ok = multiple-ok (a .lines) (a .gates .now) (a .vector) (a .entries .now)
+    (ap found (sym (c .enum-told .given .1)) ∙ c .before .before .check-multiple .ensures) in
     (ok .vector .circuit, ok .entries)
 
 yes-or-no-requires : tie.Need-yes-or-no-requires
@@ -29,13 +30,15 @@ yes-or-no-requires c κs = search needs
 returns : tie.Need-returns
 returns c =
     let a = c .before .before .before .before .before .before .args in
-    refused-all (multipleRows (a .lines) (a .gates .now) (a .vector) (a .entries .now)) _ _ _ (ap found (sym (c .before .refusal .given .1)) ∙ c .before .before .before .check-multiple .ensures)
+    refused-all (multipleRows (a .lines) (a .gates .now) (a .vector) (a .entries .now)) _ _ _
+    (ap found (sym (c .before .refusal .given .1)) ∙ c .before .before .before .check-multiple .ensures)
 
 returns-2 : tie.Need-returns-2
 returns-2 c =
     let a = c .before .before .before .before .before .before .before .args in
     let passed = ap found (sym (c .before .before .enum-told .given .1)) ∙ c .before .before .before .before .check-multiple .ensures in
-    c .yes-or-no .ensures ∙ rw (c .before .catches-multiple .ensures) (fine-all (multipleRows (a .lines) (a .gates .now) (a .vector) (a .entries .now)) _ passed)
+    c .yes-or-no .ensures ∙ rw (c .before .catches-multiple .ensures)
+    (fine-all (multipleRows (a .lines) (a .gates .now) (a .vector) (a .entries .now)) _ passed)
 
 pub catches-multiple-spec : {M : Type 1} → statement M
 catches-multiple-spec =

@@ -26,7 +26,8 @@ test-for-requires c κs =
 returns : tie.Need-returns
 returns c =
     let a = c .before .before .before .before .before .args in
-    refused-all (testRows (a .lines) (a .gates .now) (a .fault)) _ _ _ (ap found (sym (c .before .refusal .given .1)) ∙ c .before .before .before .check-test .ensures)
+    refused-all (testRows (a .lines) (a .gates .now) (a .fault)) _ _ _
+    (ap found (sym (c .before .refusal .given .1)) ∙ c .before .before .before .check-test .ensures)
 
 returns-2 : tie.Need-returns-2
 returns-2 c =

@@ -14,7 +14,8 @@ flip-requires c κs = search needs
 returns : tie.Need-returns
 returns c =
     let a = c .before .before .before .args in
-    c .flip .ensures ∙ others-code (a .lines) (c .before .before .all-ones .result) (a .gate) (c .before .before .before .pre .1) (c .before .before .all-ones .ensures)
+    c .flip .ensures ∙ others-code (a .lines) (c .before .before .all-ones .result) (a .gate) (c .before .before .before .pre .1)
+    (c .before .before .all-ones .ensures)
 
 pub other-lines-spec : {M : Type 1} → statement M
 other-lines-spec = tie.close (tie.spec all-ones-requires flip-requires returns)

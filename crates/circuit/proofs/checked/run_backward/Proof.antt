@@ -13,7 +13,8 @@ use Rattle.circuit.proofs.checked.run_backward.Statement.{statement}
 use Rattle.circuit.proofs.checked.run_backward.Tie as tie
 
 abbrev Inv-loop : tie.InvT-loop
-Inv-loop lines gates level state end now₀ taken₀ now taken = (taken ≤ end) × ((end ≤ length (gatesOf gates)) × (backward (gatesOf gates) end state ≡ backward (gatesOf gates) (end - taken) now))
+Inv-loop lines gates level state end now₀ taken₀ now taken =
+    (taken ≤ end) × ((end ≤ length (gatesOf gates)) × (backward (gatesOf gates) end state ≡ backward (gatesOf gates) (end - taken) now))
 
 abbrev μ-loop : tie.MeasureT-loop
 μ-loop lines gates level state end now₀ taken₀ now taken = end - taken
@@ -51,7 +52,8 @@ loop-again c =
     let end = l .before .gates-before .result in
     let i = end - (l .loop .taken + 1) in
     let next : end - l .loop .taken ≡ i + 1 = omega arith in
-    let gate = sym (gate-entry (gatesOf (a .gates .now)) i (c .before .before .gate-back .result .0) (omega arith)) ∙ sym (c .before .gate-at .ensures) in
+    let gate = sym (gate-entry (gatesOf (a .gates .now)) i (c .before .before .gate-back .result .0) (omega arith))
+    ∙ sym (c .before .gate-at .ensures) in
     let stepped = ap (λ g. step g (l .loop .now)) gate ∙ sym (c .step .ensures) in (
       omega arith,
       (

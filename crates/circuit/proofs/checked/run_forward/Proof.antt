@@ -13,7 +13,8 @@ run-onward-requires : tie.Need-run-onward-requires
 run-onward-requires c κs = search needs
 
 returns : tie.Need-returns
-returns c = let a = c .before .before .before .args in c .run-onward .ensures ∙ rw (c .before .level .ensures) (onward-forward (gatesOf (a .gates .now)) (a .level .0) (a .vector))
+returns c = let a = c .before .before .before .args in c .run-onward .ensures
+    ∙ rw (c .before .level .ensures) (onward-forward (gatesOf (a .gates .now)) (a .level .0) (a .vector))
 
 pub run-forward-spec : {M : Type 1} → statement M
 run-forward-spec = tie.close (tie.spec level-requires run-onward-requires returns)

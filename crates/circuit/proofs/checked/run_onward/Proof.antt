@@ -51,7 +51,8 @@ loop-again : tie.Need-loop-again Inv-loop μ-loop
 loop-again c =
     let l = c .before .before .before .before .before in
     let a = l .before .before .before .before .args in
-    let gate = c .before .gate-at .ensures ∙ gate-entry (gatesOf (a .gates .now)) (l .loop .i) (c .before .before .gate-after .result .0) (omega arith) in (
+    let gate = c .before .gate-at .ensures ∙ gate-entry (gatesOf (a .gates .now)) (l .loop .i) (c .before .before .gate-after .result .0)
+    (omega arith) in (
       omega arith,
       (
         omega arith,

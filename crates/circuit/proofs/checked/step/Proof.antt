@@ -19,7 +19,8 @@ shl-result c = search needs
 
 returns : tie.Need-returns
 unfolding step
-returns c = flip-shl-when (c .fires .result) (c .before .args .state) (c .before .args .gate .target) (search needs) ∙ ap (λ b. pick b (flip (c .before .args .state) (c .before .args .gate .target)) (c .before .args .state)) (c .fires .ensures)
+returns c = flip-shl-when (c .fires .result) (c .before .args .state) (c .before .args .gate .target) (search needs)
+    ∙ ap (λ b. pick b (flip (c .before .args .state) (c .before .args .gate .target)) (c .before .args .state)) (c .fires .ensures)
 
 pub step-spec : {M : Type 1} → statement M
 step-spec = tie.close (tie.spec fires-requires cast-result shl-result returns)

@@ -40,13 +40,23 @@ returns-5 : tie.Need-returns-5
 unfolding circuitSetRows
 returns-5 c =
     let t = c .before .before in
-    rw (← c .before .first-bad-gate .ensures, lines-right _ (t .before .before .before .if1 .left) (t .before .before .if2 .left), sizes-right _ _ (t .before .if3 .left) (t .if4 .left), ne-eqb _ _ (c .if5 .taken))
+    rw (
+      ← c .before .first-bad-gate .ensures,
+      lines-right _ (t .before .before .before .if1 .left) (t .before .before .if2 .left),
+      sizes-right _ _ (t .before .if3 .left) (t .if4 .left),
+      ne-eqb _ _ (c .if5 .taken),
+    )
 
 returns-6 : tie.Need-returns-6
 unfolding circuitSetRows
 returns-6 c =
     let t = c .before .before in
-    rw (← c .before .first-bad-gate .ensures, lines-right _ (t .before .before .before .if1 .left) (t .before .before .if2 .left), sizes-right _ _ (t .before .if3 .left) (t .if4 .left), eq-eqb _ _ (c .if5 .left))
+    rw (
+      ← c .before .first-bad-gate .ensures,
+      lines-right _ (t .before .before .before .if1 .left) (t .before .before .if2 .left),
+      sizes-right _ _ (t .before .if3 .left) (t .if4 .left),
+      eq-eqb _ _ (c .if5 .left),
+    )
 
 pub check-circuit-set-spec : {M : Type 1} → statement M
 check-circuit-set-spec =

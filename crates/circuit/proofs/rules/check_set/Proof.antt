@@ -21,7 +21,8 @@ returns : tie.Need-returns
 unfolding setRows
 returns c =
     let a = c .before .before .before .before .before .before .args in
-    refused-on (circuitSetRows (a .lines) (a .gates .now) (length (a .vectors .now))) _ fine _ _ (ap found (sym (c .before .refusal .given .1)) ∙ c .before .before .before .check-circuit-set .ensures)
+    refused-on (circuitSetRows (a .lines) (a .gates .now) (length (a .vectors .now))) _ fine _ _
+    (ap found (sym (c .before .refusal .given .1)) ∙ c .before .before .before .check-circuit-set .ensures)
 
 enum-told : tie.Need-enum-told
 enum-told c = search needs
@@ -29,13 +30,15 @@ enum-told c = search needs
 first-bad-vector-requires : tie.Need-first-bad-vector-requires
 first-bad-vector-requires c κs =
     let a = c .before .before .before .before .before .args in
-    let ok = circuit-set-ok (a .lines) (a .gates .now) (length (a .vectors .now)) (ap found (sym (c .enum-told .given .1)) ∙ c .before .before .check-circuit-set .ensures) in
+    let ok = circuit-set-ok (a .lines) (a .gates .now) (length (a .vectors .now))
+    (ap found (sym (c .enum-told .given .1)) ∙ c .before .before .check-circuit-set .ensures) in
     omega arith
 
 cast-t9 : tie.Need-cast-t9
 cast-t9 c =
     let a = c .before .before .before .before .before .before .before .args in
-    let ok = circuit-set-ok (a .lines) (a .gates .now) (length (a .vectors .now)) (ap found (sym (c .before .before .enum-told .given .1)) ∙ c .before .before .before .before .check-circuit-set .ensures) in
+    let ok = circuit-set-ok (a .lines) (a .gates .now) (length (a .vectors .now))
+    (ap found (sym (c .before .before .enum-told .given .1)) ∙ c .before .before .before .before .check-circuit-set .ensures) in
     let small = first-vector-le (a .lines) (a .vectors .now) in
     record { fits = omega arith }
 
@@ -44,14 +47,16 @@ unfolding setRows
 returns-2 c =
     let a = c .before .before .before .before .before .before .before .args in
     let passed = ap found (sym (c .before .before .enum-told .given .1)) ∙ c .before .before .before .before .check-circuit-set .ensures in
-    sym (fine-on (circuitSetRows (a .lines) (a .gates .now) (length (a .vectors .now))) _ fine passed ∙ rw (← c .before .first-bad-vector .ensures, ne-eqb _ _ (c .if1 .taken)))
+    sym (fine-on (circuitSetRows (a .lines) (a .gates .now) (length (a .vectors .now))) _ fine passed
+    ∙ rw (← c .before .first-bad-vector .ensures, ne-eqb _ _ (c .if1 .taken)))
 
 returns-3 : tie.Need-returns-3
 unfolding setRows
 returns-3 c =
     let a = c .before .before .before .before .before .before .before .args in
     let passed = ap found (sym (c .before .before .enum-told .given .1)) ∙ c .before .before .before .before .check-circuit-set .ensures in
-    sym (fine-on (circuitSetRows (a .lines) (a .gates .now) (length (a .vectors .now))) _ fine passed ∙ rw (← c .before .first-bad-vector .ensures, eq-eqb _ _ (c .if1 .left)))
+    sym (fine-on (circuitSetRows (a .lines) (a .gates .now) (length (a .vectors .now))) _ fine passed
+    ∙ rw (← c .before .first-bad-vector .ensures, eq-eqb _ _ (c .if1 .left)))
 
 pub check-set-spec : {M : Type 1} → statement M
 check-set-spec =

@@ -20,7 +20,8 @@ enum-known-refusal c = search needs
 returns : tie.Need-returns
 returns c =
     let a = c .before .before .before .before .before .args in
-    refused-on (circuitRows (a .lines) (a .gates .now)) (vectorRows (a .lines) (a .vector)) fine _ _ (ap found (sym (c .before .refusal .given .1)) ∙ c .before .before .before .check-circuit .ensures)
+    refused-on (circuitRows (a .lines) (a .gates .now)) (vectorRows (a .lines) (a .vector)) fine _ _
+    (ap found (sym (c .before .refusal .given .1)) ∙ c .before .before .before .check-circuit .ensures)
 
 enum-told : tie.Need-enum-told
 enum-told c = search needs
@@ -38,7 +39,8 @@ returns-2 c =
     let a = e .before .before .before .before .args in
     let passed = ap found (sym (e .enum-told .given .1)) ∙ e .before .before .check-circuit .ensures in
     let small = ltb-true _ _ (sym (c .before .below .ensures) ∙ c .if1 .taken) in
-    sym (fine-on (circuitRows (a .lines) (a .gates .now)) (vectorRows (a .lines) (a .vector)) fine passed ∙ rw (lt-leb (2 ^ (a .lines)) (a .vector) small))
+    sym (fine-on (circuitRows (a .lines) (a .gates .now)) (vectorRows (a .lines) (a .vector)) fine passed
+    ∙ rw (lt-leb (2 ^ (a .lines)) (a .vector) small))
 
 returns-3 : tie.Need-returns-3
 unfolding vectorRows
@@ -47,7 +49,8 @@ returns-3 c =
     let a = e .before .before .before .before .args in
     let passed = ap found (sym (e .enum-told .given .1)) ∙ e .before .before .check-circuit .ensures in
     let large = ltb-false _ _ (sym (c .before .below .ensures) ∙ c .if1 .left) in
-    sym (fine-on (circuitRows (a .lines) (a .gates .now)) (vectorRows (a .lines) (a .vector)) fine passed ∙ rw (le-leb (2 ^ (a .lines)) (a .vector) large))
+    sym (fine-on (circuitRows (a .lines) (a .gates .now)) (vectorRows (a .lines) (a .vector)) fine passed
+    ∙ rw (le-leb (2 ^ (a .lines)) (a .vector) large))
 
 pub check-vector-spec : {M : Type 1} → statement M
 check-vector-spec =

@@ -18,7 +18,8 @@ use Rattle.circuit.proofs.rules.first_bad_gate.Statement.{statement}
 use Rattle.circuit.proofs.rules.first_bad_gate.Tie as tie
 
 abbrev Inv-loop : tie.InvT-loop
-Inv-loop lines gates whole i₀ i = (whole ≡ length (gatesOf gates)) × ((i ≤ whole) × (firstBadGate lines gates ≡ firstBadFrom (badGate lines) (not (eqb (length gates % 3) 0)) (i + 1) (drop i (gatesOf gates))))
+Inv-loop lines gates whole i₀ i = (whole ≡ length (gatesOf gates))
+    × ((i ≤ whole) × (firstBadGate lines gates ≡ firstBadFrom (badGate lines) (not (eqb (length gates % 3) 0)) (i + 1) (drop i (gatesOf gates))))
 
 abbrev μ-loop : tie.MeasureT-loop
 μ-loop lines gates whole i₀ i = whole - i
@@ -46,8 +47,10 @@ returns : tie.Need-returns Inv-loop μ-loop
 returns c =
     let l = c .before .before .before .before .before in
     let a = l .before .before .args in
-    let e = sym (gate-entry (gatesOf (a .gates .now)) (l .loop .i) (c .before .before .before .gate .result .0) (search needs)) ∙ sym (c .before .before .gate-at .ensures) in
-    sym (l .loop .inv .1 .1 ∙ bad-found (badGate (a .lines)) _ (gatesOf (a .gates .now)) (l .loop .i) noGate (omega arith) (ap (badGate (a .lines)) e ∙ sym (c .before .bad-gate .ensures) ∙ c .if1 .taken))
+    let e = sym (gate-entry (gatesOf (a .gates .now)) (l .loop .i) (c .before .before .before .gate .result .0) (search needs))
+    ∙ sym (c .before .before .gate-at .ensures) in
+    sym (l .loop .inv .1 .1 ∙ bad-found (badGate (a .lines)) _ (gatesOf (a .gates .now)) (l .loop .i) noGate (omega arith)
+    (ap (badGate (a .lines)) e ∙ sym (c .before .bad-gate .ensures) ∙ c .if1 .taken))
 
 add-i : tie.Need-add-i Inv-loop μ-loop
 add-i c = omega arith
@@ -59,8 +62,15 @@ loop-again : tie.Need-loop-again Inv-loop μ-loop
 loop-again c =
     let l = c .before .before .before .before .before in
     let a = l .before .before .args in
-    let e = sym (gate-entry (gatesOf (a .gates .now)) (l .loop .i) (c .before .before .before .gate .result .0) (search needs)) ∙ sym (c .before .before .gate-at .ensures) in
-    (l .loop .inv .0, (omega arith, l .loop .inv .1 .1 ∙ bad-passed (badGate (a .lines)) _ (gatesOf (a .gates .now)) (l .loop .i) noGate (omega arith) (ap (badGate (a .lines)) e ∙ sym (c .before .bad-gate .ensures) ∙ c .if1 .left)))
+    let e = sym (gate-entry (gatesOf (a .gates .now)) (l .loop .i) (c .before .before .before .gate .result .0) (search needs))
+    ∙ sym (c .before .before .gate-at .ensures) in (
+      l .loop .inv .0,
+      (
+        omega arith,
+        l .loop .inv .1 .1 ∙ bad-passed (badGate (a .lines)) _ (gatesOf (a .gates .now)) (l .loop .i) noGate (omega arith)
+            (ap (badGate (a .lines)) e ∙ sym (c .before .bad-gate .ensures) ∙ c .if1 .left),
+      ),
+    )
 
 add-result-2 : tie.Need-add-result-2 Inv-loop μ-loop
 add-result-2 c = omega arith
@@ -69,14 +79,16 @@ returns-2 : tie.Need-returns-2 Inv-loop μ-loop
 returns-2 c =
     let l = c .before .before in
     let a = l .before .before .args in
-    sym (l .loop .inv .1 .1 ∙ bad-end (badGate (a .lines)) (not (eqb (length (a .gates .now) % 3) 0)) (gatesOf (a .gates .now)) (l .loop .i) (omega arith) ∙ rw (eq-eqb (length (a .gates .now) % 3) 0 (c .if2 .taken)))
+    sym (l .loop .inv .1 .1 ∙ bad-end (badGate (a .lines)) (not (eqb (length (a .gates .now) % 3) 0)) (gatesOf (a .gates .now)) (l .loop .i)
+    (omega arith) ∙ rw (eq-eqb (length (a .gates .now) % 3) 0 (c .if2 .taken)))
 
 returns-3 : tie.Need-returns-3 Inv-loop μ-loop
 returns-3 c =
     let l = c .before .before in
     let a = l .before .before .args in
     let last : l .loop .i ≡ length (a .gates .now) / 3 = omega arith in
-    sym (l .loop .inv .1 .1 ∙ bad-end (badGate (a .lines)) (not (eqb (length (a .gates .now) % 3) 0)) (gatesOf (a .gates .now)) (l .loop .i) (omega arith) ∙ rw (ne-eqb (length (a .gates .now) % 3) 0 (c .if2 .left), last))
+    sym (l .loop .inv .1 .1 ∙ bad-end (badGate (a .lines)) (not (eqb (length (a .gates .now) % 3) 0)) (gatesOf (a .gates .now)) (l .loop .i)
+    (omega arith) ∙ rw (ne-eqb (length (a .gates .now) % 3) 0 (c .if2 .left), last))
 
 pub first-bad-gate-spec : {M : Type 1} → statement M
 first-bad-gate-spec =

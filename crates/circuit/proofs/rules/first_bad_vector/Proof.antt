@@ -39,7 +39,8 @@ returns : tie.Need-returns Inv-loop μ-loop
 returns c =
     let l = c .before .before .before .before in
     let a = l .before .before .args in
-    let over = le-leb (2 ^ (a .lines)) (getD (a .vectors .now) (l .loop .i) 0) (ltb-false _ _ (sym (c .before .below .ensures) ∙ not-true _ (c .if1 .taken))) in
+    let over = le-leb (2 ^ (a .lines)) (getD (a .vectors .now) (l .loop .i) 0)
+    (ltb-false _ _ (sym (c .before .below .ensures) ∙ not-true _ (c .if1 .taken))) in
     sym (l .loop .inv ∙ bad-found (leb (2 ^ (a .lines))) false (a .vectors .now) (l .loop .i) 0 (omega arith) over)
 
 add-i : tie.Need-add-i Inv-loop μ-loop
@@ -52,7 +53,8 @@ loop-again : tie.Need-loop-again Inv-loop μ-loop
 loop-again c =
     let l = c .before .before .before .before in
     let a = l .before .before .args in
-    let fits = lt-leb (2 ^ (a .lines)) (getD (a .vectors .now) (l .loop .i) 0) (ltb-true _ _ (sym (c .before .below .ensures) ∙ not-false _ (c .if1 .left))) in
+    let fits = lt-leb (2 ^ (a .lines)) (getD (a .vectors .now) (l .loop .i) 0)
+    (ltb-true _ _ (sym (c .before .below .ensures) ∙ not-false _ (c .if1 .left))) in
     l .loop .inv ∙ bad-passed (leb (2 ^ (a .lines))) false (a .vectors .now) (l .loop .i) 0 (omega arith) fits
 
 returns-2 : tie.Need-returns-2 Inv-loop μ-loop

@@ -18,7 +18,9 @@ use Rattle.judge.proofs.marks.mark_extra_controls.Statement.{statement}
 use Rattle.judge.proofs.marks.mark_extra_controls.Tie as tie
 
 abbrev Inv-loop : tie.InvT-loop
-Inv-loop marks₀ lines gates vector ones end state₀ i₀ marks state i = (end ≡ length (gatesOf gates)) × ((i ≤ end) × ((state ≡ forward (gatesOf gates) i vector) × (marks ≡ marked marks₀ (take i (gateMarks lines (gatesOf gates) 4 vector)))))
+Inv-loop marks₀ lines gates vector ones end state₀ i₀ marks state i =
+    (end ≡ length (gatesOf gates))
+    × ((i ≤ end) × ((state ≡ forward (gatesOf gates) i vector) × (marks ≡ marked marks₀ (take i (gateMarks lines (gatesOf gates) 4 vector)))))
 
 abbrev μ-loop : tie.MeasureT-loop
 μ-loop marks₀ lines gates vector ones end state₀ i₀ marks state i = end - i
@@ -75,10 +77,20 @@ loop-again c =
     let ones = l .before .all-ones .ensures in
     let number : c .before .before .before .before .gate-after .result .0 ≡ l .loop .i + 1 = omega arith in
     let gate = c .before .before .before .gate-at .ensures ∙ ap (gateAt gs) number in
-    let long = gate-marks-length (a .lines) gs 4 (a .vector) in
-    (l .loop .inv .0, (omega arith, (c .step .ensures ∙ next-state (a .lines) (a .gates .now) (a .vector) (l .loop .i) (l .loop .state) (start .pre .0) (start .pre .1) (l .loop .inv .1 .1 .0) (c .before .before .before .gate-at .result) gate (omega arith),
-    mark-turn (a .marks .now) (gateMarks (a .lines) gs 4 (a .vector)) (l .loop .marks) (l .loop .i) _ (omega arith) (l .loop .inv .1 .1 .1)
-    (c .before .before .where-fires .ensures ∙ extra-word (a .lines) (a .gates .now) (a .vector) (l .loop .i) (l .loop .state) (start .pre .0) (start .pre .1) (l .loop .inv .1 .1 .0) (c .before .before .before .gate-at .result) gate (omega arith) _ ones))))
+    let long = gate-marks-length (a .lines) gs 4 (a .vector) in (
+      l .loop .inv .0,
+      (
+        omega arith,
+        (
+          c .step .ensures ∙ next-state (a .lines) (a .gates .now) (a .vector) (l .loop .i) (l .loop .state) (start .pre .0) (start .pre .1)
+              (l .loop .inv .1 .1 .0) (c .before .before .before .gate-at .result) gate (omega arith),
+          mark-turn (a .marks .now) (gateMarks (a .lines) gs 4 (a .vector)) (l .loop .marks) (l .loop .i) _ (omega arith) (l .loop .inv .1 .1 .1)
+              (c .before .before .where-fires .ensures
+              ∙ extra-word (a .lines) (a .gates .now) (a .vector) (l .loop .i) (l .loop .state) (start .pre .0) (start .pre .1)
+              (l .loop .inv .1 .1 .0) (c .before .before .before .gate-at .result) gate (omega arith) _ ones),
+        ),
+      ),
+    )
 
 returns : tie.Need-returns Inv-loop μ-loop
 returns c =

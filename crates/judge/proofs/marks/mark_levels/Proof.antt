@@ -19,7 +19,12 @@ use Rattle.judge.proofs.marks.mark_levels.Statement.{statement}
 use Rattle.judge.proofs.marks.mark_levels.Tie as tie
 
 abbrev Inv-loop : tie.InvT-loop
-Inv-loop at-0₀ at-1₀ lines gates vector ones end state₀ i₀ at-0 at-1 state i = (end ≡ length (gatesOf gates)) × ((i ≤ end) × ((state ≡ forward (gatesOf gates) i vector) × ((at-0 ≡ marked at-0₀ (take i (levelMarks lines (gatesOf gates) 0 vector))) × (at-1 ≡ marked at-1₀ (take i (levelMarks lines (gatesOf gates) 1 vector))))))
+Inv-loop at-0₀ at-1₀ lines gates vector ones end state₀ i₀ at-0 at-1 state i =
+    (end ≡ length (gatesOf gates))
+    × ((i ≤ end)
+    × ((state ≡ forward (gatesOf gates) i vector)
+    × ((at-0 ≡ marked at-0₀ (take i (levelMarks lines (gatesOf gates) 0 vector)))
+    × (at-1 ≡ marked at-1₀ (take i (levelMarks lines (gatesOf gates) 1 vector))))))
 
 abbrev μ-loop : tie.MeasureT-loop
 μ-loop at-0₀ at-1₀ lines gates vector ones end state₀ i₀ at-0 at-1 state i = end - i
@@ -85,10 +90,24 @@ loop-again c =
     let marks-0 = levelMarks (a .lines) gs 0 (a .vector) in
     let marks-1 = levelMarks (a .lines) gs 1 (a .vector) in
     let long-0 = level-marks-length (a .lines) gs 0 (a .vector) in
-    let long-1 = level-marks-length (a .lines) gs 1 (a .vector) in
-    (l .loop .inv .0, (omega arith, (c .step .ensures ∙ next-state (a .lines) (a .gates .now) (a .vector) (l .loop .i) (l .loop .state) (start .pre .0) (start .pre .1) (l .loop .inv .1 .1 .0) (c .before .gate-at .result) gate (omega arith),
-    (mark-turn (a .at-0 .now) marks-0 (l .loop .at-0) (l .loop .i) (l .loop .state) (omega arith) (l .loop .inv .1 .1 .1 .0) (level-word-0 (a .lines) (a .gates .now) (a .vector) (l .loop .i) (l .loop .state) (start .pre .0) (start .pre .1) (l .loop .inv .1 .1 .0) (omega arith)),
-    mark-turn (a .at-1 .now) marks-1 (l .loop .at-1) (l .loop .i) _ (omega arith) (l .loop .inv .1 .1 .1 .1) (level-word-1 (a .lines) (a .gates .now) (a .vector) (l .loop .i) (l .loop .state) (start .pre .0) (start .pre .1) (l .loop .inv .1 .1 .0) _ ones (omega arith))))))
+    let long-1 = level-marks-length (a .lines) gs 1 (a .vector) in (
+      l .loop .inv .0,
+      (
+        omega arith,
+        (
+          c .step .ensures ∙ next-state (a .lines) (a .gates .now) (a .vector) (l .loop .i) (l .loop .state) (start .pre .0) (start .pre .1)
+              (l .loop .inv .1 .1 .0) (c .before .gate-at .result) gate (omega arith),
+          (
+            mark-turn (a .at-0 .now) marks-0 (l .loop .at-0) (l .loop .i) (l .loop .state) (omega arith) (l .loop .inv .1 .1 .1 .0)
+                (level-word-0 (a .lines) (a .gates .now) (a .vector) (l .loop .i) (l .loop .state) (start .pre .0) (start .pre .1)
+                (l .loop .inv .1 .1 .0) (omega arith)),
+            mark-turn (a .at-1 .now) marks-1 (l .loop .at-1) (l .loop .i) _ (omega arith) (l .loop .inv .1 .1 .1 .1)
+                (level-word-1 (a .lines) (a .gates .now) (a .vector) (l .loop .i) (l .loop .state) (start .pre .0) (start .pre .1)
+                (l .loop .inv .1 .1 .0) _ ones (omega arith)),
+          ),
+        ),
+      ),
+    )
 
 mul-at-0-2 : tie.Need-mul-at-0-2 Inv-loop μ-loop
 mul-at-0-2 c = omega arith
@@ -120,11 +139,16 @@ returns c =
     let marks-1 = levelMarks (a .lines) gs 1 (a .vector) in
     let long-0 = level-marks-length (a .lines) gs 0 (a .vector) in
     let long-1 = level-marks-length (a .lines) gs 1 (a .vector) in
-    rw (← last)
-    (mark-done (a .at-0 .now) marks-0 _ (l .loop .i + 1) (omega arith)
-    (mark-turn (a .at-0 .now) marks-0 (l .loop .at-0) (l .loop .i) (l .loop .state) (omega arith) (l .loop .inv .1 .1 .1 .0) (level-word-0 (a .lines) (a .gates .now) (a .vector) (l .loop .i) (l .loop .state) (start .pre .0) (start .pre .1) (l .loop .inv .1 .1 .0) (omega arith))),
-    mark-done (a .at-1 .now) marks-1 _ (l .loop .i + 1) (omega arith)
-    (mark-turn (a .at-1 .now) marks-1 (l .loop .at-1) (l .loop .i) _ (omega arith) (l .loop .inv .1 .1 .1 .1) (level-word-1 (a .lines) (a .gates .now) (a .vector) (l .loop .i) (l .loop .state) (start .pre .0) (start .pre .1) (l .loop .inv .1 .1 .0) _ ones (omega arith))))
+    rw (← last) (
+      mark-done (a .at-0 .now) marks-0 _ (l .loop .i + 1) (omega arith)
+          (mark-turn (a .at-0 .now) marks-0 (l .loop .at-0) (l .loop .i) (l .loop .state) (omega arith) (l .loop .inv .1 .1 .1 .0)
+          (level-word-0 (a .lines) (a .gates .now) (a .vector) (l .loop .i) (l .loop .state) (start .pre .0) (start .pre .1) (l .loop .inv .1 .1 .0)
+          (omega arith))),
+      mark-done (a .at-1 .now) marks-1 _ (l .loop .i + 1) (omega arith)
+          (mark-turn (a .at-1 .now) marks-1 (l .loop .at-1) (l .loop .i) _ (omega arith) (l .loop .inv .1 .1 .1 .1)
+          (level-word-1 (a .lines) (a .gates .now) (a .vector) (l .loop .i) (l .loop .state) (start .pre .0) (start .pre .1)
+          (l .loop .inv .1 .1 .0) _ ones (omega arith))),
+    )
 
 pub mark-levels-spec : {M : Type 1} → statement M
 mark-levels-spec =

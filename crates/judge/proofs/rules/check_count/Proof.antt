@@ -24,7 +24,8 @@ returns : tie.Need-returns
 unfolding countRows
 returns c =
     let a = c .before .before .before .before .before .args in
-    refused-on (circuitRows (a .lines) (a .gates .now)) (classRows (a .class)) fine _ _ (ap found (sym (c .before .refusal .given .1)) ∙ c .before .before .before .check-circuit .ensures)
+    refused-on (circuitRows (a .lines) (a .gates .now)) (classRows (a .class)) fine _ _
+    (ap found (sym (c .before .refusal .given .1)) ∙ c .before .before .before .check-circuit .ensures)
 
 returns-2 : tie.Need-returns-2
 unfolding countRows

@@ -24,7 +24,8 @@ returns : tie.Need-returns
 unfolding judgeRows
 returns c =
     let a = c .before .before .before .before .before .before .args in
-    refused-on (setRows (a .lines) (a .gates .now) (a .vectors .now)) (classRows (a .class)) fine _ _ (ap found (sym (c .before .refusal .given .1)) ∙ c .before .before .before .check-set .ensures)
+    refused-on (setRows (a .lines) (a .gates .now) (a .vectors .now)) (classRows (a .class)) fine _ _
+    (ap found (sym (c .before .refusal .given .1)) ∙ c .before .before .before .check-set .ensures)
 
 returns-2 : tie.Need-returns-2
 unfolding judgeRows

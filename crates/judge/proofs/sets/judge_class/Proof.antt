@@ -13,7 +13,8 @@ judge-levels-requires c κs = search needs
 returns : tie.Need-returns
 returns c =
     let a = c .before .before .before .before .args in
-    c .judge-levels .ensures ∙ ap (verdict (caughtBySome (gatesOf (a .gates .now)) (a .vectors .now))) (sym (list-one (a .lines) (gatesOf (a .gates .now)) (a .class) (c .before .if1 .taken)))
+    c .judge-levels .ensures ∙ ap (verdict (caughtBySome (gatesOf (a .gates .now)) (a .vectors .now)))
+    (sym (list-one (a .lines) (gatesOf (a .gates .now)) (a .class) (c .before .if1 .taken)))
 
 judge-gates-requires : tie.Need-judge-gates-requires
 judge-gates-requires c κs = search needs

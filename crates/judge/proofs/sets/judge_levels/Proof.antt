@@ -18,7 +18,8 @@ returns c =
     let start = c .before .before .before .before .before .before .before .before in
     let a = start .args in
     c .tally-levels .ensures ∙ rw (← list-one (a .lines) (gatesOf (a .gates .now)) 1 refl)
-    (set-levels (a .lines) (a .gates .now) (a .vectors .now) (start .pre .0) _ _ (c .before .before .before .mark-set-levels .ensures .0) (c .before .before .before .mark-set-levels .ensures .1))
+    (set-levels (a .lines) (a .gates .now) (a .vectors .now) (start .pre .0) _ _ (c .before .before .before .mark-set-levels .ensures .0)
+    (c .before .before .before .mark-set-levels .ensures .1))
 
 pub judge-levels-spec : {M : Type 1} → statement M
 judge-levels-spec = tie.close (tie.spec mark-set-levels-requires tally-levels-requires returns)

@@ -12,7 +12,8 @@ use Rattle.judge.proofs.sets.mark_set_gates.Statement.{statement}
 use Rattle.judge.proofs.sets.mark_set_gates.Tie as tie
 
 abbrev Inv-loop : tie.InvT-loop
-Inv-loop class words₀ lines gates vectors i₀ words i = markAll words₀ (gateMarks lines (gatesOf gates) class) vectors ≡ markAll words (gateMarks lines (gatesOf gates) class) (drop i vectors)
+Inv-loop class words₀ lines gates vectors i₀ words i =
+    markAll words₀ (gateMarks lines (gatesOf gates) class) vectors ≡ markAll words (gateMarks lines (gatesOf gates) class) (drop i vectors)
 
 abbrev μ-loop : tie.MeasureT-loop
 μ-loop class words₀ lines gates vectors i₀ words i = length vectors - i
@@ -20,19 +21,21 @@ abbrev μ-loop : tie.MeasureT-loop
 loop-holds : tie.Need-loop-holds Inv-loop μ-loop
 loop-holds c = refl
 
-mul-vector : tie.Need-mul-vector Inv-loop μ-loop
-mul-vector c = omega arith
+mul-input : tie.Need-mul-input Inv-loop μ-loop
+mul-input c = omega arith
 
-shared-slice-read-vector : tie.Need-shared-slice-read-vector Inv-loop μ-loop
-shared-slice-read-vector c = omega arith
+shared-slice-read-input : tie.Need-shared-slice-read-input Inv-loop μ-loop
+shared-slice-read-input c = omega arith
 
 mark-gates-requires : tie.Need-mark-gates-requires Inv-loop μ-loop
 mark-gates-requires c κs =
     let l = c .before .before .before in
     let start = l .before .before .before in
     let a = start .args in
-    let gs = gatesOf (a .gates .now) in
-    (start .pre .0, (start .pre .1 .0, (start .pre .1 .1 .0, all-at (λ x. x < 2 ^ (a .lines)) (a .vectors .now) (l .loop .i) 0 (omega arith) (start .pre .1 .1 .1))))
+    let gs = gatesOf (a .gates .now) in (
+      start .pre .0,
+      (start .pre .1 .0, (start .pre .1 .1 .0, all-at (λ x. x < 2 ^ (a .lines)) (a .vectors .now) (l .loop .i) 0 (omega arith) (start .pre .1 .1 .1))),
+    )
 
 add-i : tie.Need-add-i Inv-loop μ-loop
 add-i c = omega arith
@@ -46,7 +49,8 @@ loop-again c =
     let start = l .before .before .before in
     let a = start .args in
     let gs = gatesOf (a .gates .now) in
-    l .loop .inv ∙ mark-all-more (gateMarks (a .lines) gs (a .class)) (l .loop .words) (a .vectors .now) (l .loop .i) (omega arith) ∙ ap (λ w. markAll w (gateMarks (a .lines) gs (a .class)) (drop (l .loop .i + 1) (a .vectors .now))) (sym (c .mark-gates .ensures))
+    l .loop .inv ∙ mark-all-more (gateMarks (a .lines) gs (a .class)) (l .loop .words) (a .vectors .now) (l .loop .i) (omega arith)
+    ∙ ap (λ w. markAll w (gateMarks (a .lines) gs (a .class)) (drop (l .loop .i + 1) (a .vectors .now))) (sym (c .mark-gates .ensures))
 
 returns : tie.Need-returns Inv-loop μ-loop
 returns c =
@@ -63,8 +67,8 @@ mark-set-gates-spec =
     Inv-loop
     μ-loop
     loop-holds
-    mul-vector
-    shared-slice-read-vector
+    mul-input
+    shared-slice-read-input
     mark-gates-requires
     add-i
     loop-less

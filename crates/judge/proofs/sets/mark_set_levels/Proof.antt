@@ -12,7 +12,9 @@ use Rattle.judge.proofs.sets.mark_set_levels.Statement.{statement}
 use Rattle.judge.proofs.sets.mark_set_levels.Tie as tie
 
 abbrev Inv-loop : tie.InvT-loop
-Inv-loop at-0₀ at-1₀ lines gates vectors i₀ at-0 at-1 i = (markAll at-0₀ (levelMarks lines (gatesOf gates) 0) vectors ≡ markAll at-0 (levelMarks lines (gatesOf gates) 0) (drop i vectors)) × (markAll at-1₀ (levelMarks lines (gatesOf gates) 1) vectors ≡ markAll at-1 (levelMarks lines (gatesOf gates) 1) (drop i vectors))
+Inv-loop at-0₀ at-1₀ lines gates vectors i₀ at-0 at-1 i =
+    (markAll at-0₀ (levelMarks lines (gatesOf gates) 0) vectors ≡ markAll at-0 (levelMarks lines (gatesOf gates) 0) (drop i vectors))
+    × (markAll at-1₀ (levelMarks lines (gatesOf gates) 1) vectors ≡ markAll at-1 (levelMarks lines (gatesOf gates) 1) (drop i vectors))
 
 abbrev μ-loop : tie.MeasureT-loop
 μ-loop at-0₀ at-1₀ lines gates vectors i₀ at-0 at-1 i = length vectors - i
@@ -45,20 +47,22 @@ loop-again c =
     let l = c .before .before .before .before .before in
     let start = l .before .before .before in
     let a = start .args in
-    let gs = gatesOf (a .gates .now) in
-    (l .loop .inv .0 ∙ mark-all-more (levelMarks (a .lines) gs 0) (l .loop .at-0) (a .vectors .now) (l .loop .i) (omega arith)
-    ∙ ap (λ w. markAll w (levelMarks (a .lines) gs 0) (drop (l .loop .i + 1) (a .vectors .now))) (sym (c .mark-levels .ensures .0)),
-    l .loop .inv .1 ∙ mark-all-more (levelMarks (a .lines) gs 1) (l .loop .at-1) (a .vectors .now) (l .loop .i) (omega arith)
-    ∙ ap (λ w. markAll w (levelMarks (a .lines) gs 1) (drop (l .loop .i + 1) (a .vectors .now))) (sym (c .mark-levels .ensures .1)))
+    let gs = gatesOf (a .gates .now) in (
+      l .loop .inv .0 ∙ mark-all-more (levelMarks (a .lines) gs 0) (l .loop .at-0) (a .vectors .now) (l .loop .i) (omega arith)
+          ∙ ap (λ w. markAll w (levelMarks (a .lines) gs 0) (drop (l .loop .i + 1) (a .vectors .now))) (sym (c .mark-levels .ensures .0)),
+      l .loop .inv .1 ∙ mark-all-more (levelMarks (a .lines) gs 1) (l .loop .at-1) (a .vectors .now) (l .loop .i) (omega arith)
+          ∙ ap (λ w. markAll w (levelMarks (a .lines) gs 1) (drop (l .loop .i + 1) (a .vectors .now))) (sym (c .mark-levels .ensures .1)),
+    )
 
 returns : tie.Need-returns Inv-loop μ-loop
 returns c =
     let l = c .before in
     let start = l .before .before .before in
     let a = start .args in
-    let gs = gatesOf (a .gates .now) in
-    (sym (l .loop .inv .0 ∙ mark-all-end (levelMarks (a .lines) gs 0) (l .loop .at-0) (a .vectors .now) (l .loop .i) (omega arith)),
-    sym (l .loop .inv .1 ∙ mark-all-end (levelMarks (a .lines) gs 1) (l .loop .at-1) (a .vectors .now) (l .loop .i) (omega arith)))
+    let gs = gatesOf (a .gates .now) in (
+      sym (l .loop .inv .0 ∙ mark-all-end (levelMarks (a .lines) gs 0) (l .loop .at-0) (a .vectors .now) (l .loop .i) (omega arith)),
+      sym (l .loop .inv .1 ∙ mark-all-end (levelMarks (a .lines) gs 1) (l .loop .at-1) (a .vectors .now) (l .loop .i) (omega arith)),
+    )
 
 pub mark-set-levels-spec : {M : Type 1} → statement M
 mark-set-levels-spec =

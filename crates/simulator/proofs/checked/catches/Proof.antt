@@ -20,7 +20,8 @@ returns : tie.Need-returns
 returns c =
     let a = c .before .before .before .args in
     let ok = c .before .before .before .pre .0 in
-    let k = stuck-fault (a .lines) (a .gates .now) (a .fault) (c .before .before .before .pre .0) (c .before .before .before .pre .1) (c .before .if1 .taken) in
+    let k = stuck-fault (a .lines) (a .gates .now) (a .fault) (c .before .before .before .pre .0) (c .before .before .before .pre .1)
+    (c .before .if1 .taken) in
     c .catches-stuck-at .ensures ∙ sym (stuck-caught (a .lines) (gatesOf (a .gates .now)) (ok .gates-ok) (a .fault) k (a .vector))
 
 cast-gate : tie.Need-cast-gate
@@ -32,62 +33,83 @@ gate-requires c κs = search needs
 catches-missing-gate-requires : tie.Need-catches-missing-gate-requires
 catches-missing-gate-requires c κs =
     let a = c .before .before .before .before .args in
-    let w = names-gate (a .lines) (a .gates .now) (a .fault) (c .before .before .before .before .pre .0) (c .before .before .before .before .pre .1) (c .before .before .if1 .left) in
+    let w = names-gate (a .lines) (a .gates .now) (a .fault) (c .before .before .before .before .pre .0) (c .before .before .before .before .pre .1)
+    (c .before .before .if1 .left) in
     (search needs, (omega arith, omega arith))
 
 returns-2 : tie.Need-returns-2
 returns-2 c =
     let a = c .before .before .before .before .before .args in
     let ok = c .before .before .before .before .before .pre .0 in
-    let w = names-gate (a .lines) (a .gates .now) (a .fault) (c .before .before .before .before .before .pre .0) (c .before .before .before .before .before .pre .1) (c .before .before .before .if1 .left) in
+    let w = names-gate (a .lines) (a .gates .now) (a .fault) (c .before .before .before .before .before .pre .0)
+    (c .before .before .before .before .before .pre .1) (c .before .before .before .if1 .left) in
     let number : c .before .before .gate .result .0 ≡ a .fault .place = c .before .before .gate .ensures in
-    c .catches-missing-gate .ensures ∙ rw number (sym (missing-gate-caught (a .lines) (gatesOf (a .gates .now)) (ok .gates-ok) (a .fault) (w .0) (w .1) (a .vector) (c .before .if2 .taken)))
+    c .catches-missing-gate .ensures
+    ∙ rw number
+    (sym (missing-gate-caught (a .lines) (gatesOf (a .gates .now)) (ok .gates-ok) (a .fault) (w .0) (w .1) (a .vector) (c .before .if2 .taken)))
 
 gate-at-requires : tie.Need-gate-at-requires
 gate-at-requires c κs =
     let a = c .before .before .before .before .args in
-    let w = names-gate (a .lines) (a .gates .now) (a .fault) (c .before .before .before .before .pre .0) (c .before .before .before .before .pre .1) (c .before .before .if1 .left) in
+    let w = names-gate (a .lines) (a .gates .now) (a .fault) (c .before .before .before .before .pre .0) (c .before .before .before .before .pre .1)
+    (c .before .before .if1 .left) in
     (omega arith, omega arith)
 
 less-control-requires : tie.Need-less-control-requires
 less-control-requires c κs =
     let a = c .before .before .before .before .before .before .args in
-    let l = names-line (a .lines) (a .gates .now) (a .fault) (c .before .before .before .before .before .before .pre .0) (c .before .before .before .before .before .before .pre .1) in
+    let l = names-line (a .lines) (a .gates .now) (a .fault) (c .before .before .before .before .before .before .pre .0)
+    (c .before .before .before .before .before .before .pre .1) in
     omega arith
 
 catches-control-requires : tie.Need-catches-control-requires
 catches-control-requires c κs =
     let a = c .before .before .before .before .before .before .before .args in
-    let w = names-gate (a .lines) (a .gates .now) (a .fault) (c .before .before .before .before .before .before .before .pre .0) (c .before .before .before .before .before .before .before .pre .1) (c .before .before .before .before .before .if1 .left) in
-    let l = names-line (a .lines) (a .gates .now) (a .fault) (c .before .before .before .before .before .before .before .pre .0) (c .before .before .before .before .before .before .before .pre .1) in
+    let w = names-gate (a .lines) (a .gates .now) (a .fault) (c .before .before .before .before .before .before .before .pre .0)
+    (c .before .before .before .before .before .before .before .pre .1) (c .before .before .before .before .before .if1 .left) in
+    let l = names-line (a .lines) (a .gates .now) (a .fault) (c .before .before .before .before .before .before .before .pre .0)
+    (c .before .before .before .before .before .before .before .pre .1) in
     (search needs, (omega arith, (omega arith, omega arith)))
 
 returns-3 : tie.Need-returns-3
 returns-3 c =
     let a = c .before .before .before .before .before .before .before .before .args in
     let ok = c .before .before .before .before .before .before .before .before .pre .0 in
-    let w = names-gate (a .lines) (a .gates .now) (a .fault) (c .before .before .before .before .before .before .before .before .pre .0) (c .before .before .before .before .before .before .before .before .pre .1) (c .before .before .before .before .before .before .if1 .left) in
+    let w = names-gate (a .lines) (a .gates .now) (a .fault) (c .before .before .before .before .before .before .before .before .pre .0)
+    (c .before .before .before .before .before .before .before .before .pre .1) (c .before .before .before .before .before .before .if1 .left) in
     let number : c .before .before .before .before .before .gate .result .0 ≡ a .fault .place = c .before .before .before .before .before .gate .ensures in
     let made : c .before .less-control .result ≡ lessControl (a .fault .line) (gateAt (gatesOf (a .gates .now)) (a .fault .place)) = cc in
-    c .catches-control .ensures ∙ rw (number, made) (sym (missing-control-caught (a .lines) (gatesOf (a .gates .now)) (ok .gates-ok) (a .fault) (w .0) (w .1) (a .vector) (c .before .before .if3 .taken)
-    (is-missing (a .lines) (a .gates .now) (a .fault) (c .before .before .before .before .before .before .before .before .pre .0) (c .before .before .before .before .before .before .before .before .pre .1) (c .before .before .if3 .taken))))
+    c .catches-control .ensures
+    ∙ rw (number, made)
+    (sym (missing-control-caught (a .lines) (gatesOf (a .gates .now)) (ok .gates-ok) (a .fault) (w .0) (w .1) (a .vector)
+    (c .before .before .if3 .taken)
+    (is-missing (a .lines) (a .gates .now) (a .fault) (c .before .before .before .before .before .before .before .before .pre .0)
+    (c .before .before .before .before .before .before .before .before .pre .1) (c .before .before .if3 .taken))))
 
 catches-control-requires-2 : tie.Need-catches-control-requires-2
 catches-control-requires-2 c κs =
     let a = c .before .before .before .before .before .before .args in
-    let w = names-gate (a .lines) (a .gates .now) (a .fault) (c .before .before .before .before .before .before .pre .0) (c .before .before .before .before .before .before .pre .1) (c .before .before .before .before .if1 .left) in
-    let l = names-line (a .lines) (a .gates .now) (a .fault) (c .before .before .before .before .before .before .pre .0) (c .before .before .before .before .before .before .pre .1) in
+    let w = names-gate (a .lines) (a .gates .now) (a .fault) (c .before .before .before .before .before .before .pre .0)
+    (c .before .before .before .before .before .before .pre .1) (c .before .before .before .before .if1 .left) in
+    let l = names-line (a .lines) (a .gates .now) (a .fault) (c .before .before .before .before .before .before .pre .0)
+    (c .before .before .before .before .before .before .pre .1) in
     (search needs, (omega arith, (omega arith, omega arith)))
 
 returns-4 : tie.Need-returns-4
 returns-4 c =
     let a = c .before .before .before .before .before .before .before .args in
     let ok = c .before .before .before .before .before .before .before .pre .0 in
-    let w = names-gate (a .lines) (a .gates .now) (a .fault) (c .before .before .before .before .before .before .before .pre .0) (c .before .before .before .before .before .before .before .pre .1) (c .before .before .before .before .before .if1 .left) in
-    let last = class-last (a .lines) (gatesOf (a .gates .now)) (a .fault) (c .before .before .before .before .before .before .before .pre .1) (c .before .before .before .before .before .if1 .left) (c .before .before .before .if2 .left) (c .before .if3 .left) in
+    let w = names-gate (a .lines) (a .gates .now) (a .fault) (c .before .before .before .before .before .before .before .pre .0)
+    (c .before .before .before .before .before .before .before .pre .1) (c .before .before .before .before .before .if1 .left) in
+    let last = class-last (a .lines) (gatesOf (a .gates .now)) (a .fault) (c .before .before .before .before .before .before .before .pre .1)
+    (c .before .before .before .before .before .if1 .left) (c .before .before .before .if2 .left) (c .before .if3 .left) in
     let number : c .before .before .before .before .gate .result .0 ≡ a .fault .place = c .before .before .before .before .gate .ensures in
     let same : c .before .before .gate-at .result ≡ gateAt (gatesOf (a .gates .now)) (a .fault .place) = cc in
-    c .catches-control2 .ensures ∙ rw (number, same) (sym (extra-control-caught (a .lines) (gatesOf (a .gates .now)) (ok .gates-ok) (a .fault) (w .0) (w .1) (a .vector) last (is-extra (a .lines) (a .gates .now) (a .fault) (c .before .before .before .before .before .before .before .pre .0) (c .before .before .before .before .before .before .before .pre .1) last)))
+    c .catches-control2 .ensures
+    ∙ rw (number, same)
+    (sym (extra-control-caught (a .lines) (gatesOf (a .gates .now)) (ok .gates-ok) (a .fault) (w .0) (w .1) (a .vector) last
+    (is-extra (a .lines) (a .gates .now) (a .fault) (c .before .before .before .before .before .before .before .pre .0)
+    (c .before .before .before .before .before .before .before .pre .1) last)))
 
 pub catches-spec : {M : Type 1} → statement M
 catches-spec =

@@ -23,8 +23,10 @@ returns : tie.Need-returns
 unfolding caughtTogether
 returns c =
     let a = c .before .before .before .before .before .args in
-    let last : c .before .before .level .result .0 ≡ length (gatesOf (a .gates .now)) = c .before .before .level .ensures ∙ sym (gates-count (a .gates .now)) in
-    let good : c .before .run-forward .result ≡ run (gatesOf (a .gates .now)) (a .vector) = c .before .run-forward .ensures ∙ rw last (forward-all (gatesOf (a .gates .now)) (a .vector)) in
+    let last : c .before .before .level .result .0 ≡ length (gatesOf (a .gates .now)) = c .before .before .level .ensures
+    ∙ sym (gates-count (a .gates .now)) in
+    let good : c .before .run-forward .result ≡ run (gatesOf (a .gates .now)) (a .vector) = c .before .run-forward .ensures
+    ∙ rw last (forward-all (gatesOf (a .gates .now)) (a .vector)) in
     rw (c .run-stuck .ensures, good)
 
 pub catches-multiple-spec : {M : Type 1} → statement M

@@ -5,7 +5,8 @@ use mathlib.Core.Path.{_≡_, ap, sym, _∙_}
 use native.Mathlib.Omega.{arith}
 use Rattle.circuit.specs.Gates.{gatesOf, gateAt}
 use Rattle.circuit.specs.Controls.{lessControl, moreControl}
-use Rattle.simulator.proofs.FaultLaws.{faulty-stuck, stuck-one, faulty-missing-gate, run-without, faulty-missing-control, faulty-extra-control, run-changed}
+use Rattle.simulator.proofs.FaultLaws.{faulty-stuck, stuck-one, faulty-missing-gate, run-without, faulty-missing-control, faulty-extra-control}
+use Rattle.simulator.proofs.FaultLaws.{run-changed}
 use Rattle.simulator.proofs.RuleLaws.{class-last}
 use Rattle.simulator.proofs.ClassLaws.{stuck-fault, names-gate, names-line, less-target, more-target}
 use borrow.Author.Needs.{needs}
@@ -21,8 +22,11 @@ run-stuck-at-requires c κs =
 returns : tie.Need-returns
 returns c =
     let a = c .before .before .before .args in
-    let k = stuck-fault (a .lines) (a .gates .now) (a .fault) (c .before .before .before .pre .0) (c .before .before .before .pre .1) (c .before .if1 .taken) in
-    c .run-stuck-at .ensures ∙ sym (faulty-stuck (gatesOf (a .gates .now)) (a .fault) (a .vector) (c .before .if1 .taken) ∙ stuck-one (gatesOf (a .gates .now)) (a .fault) (a .vector) (k .place-in))
+    let k = stuck-fault (a .lines) (a .gates .now) (a .fault) (c .before .before .before .pre .0) (c .before .before .before .pre .1)
+    (c .before .if1 .taken) in
+    c .run-stuck-at .ensures
+    ∙ sym (faulty-stuck (gatesOf (a .gates .now)) (a .fault) (a .vector) (c .before .if1 .taken)
+    ∙ stuck-one (gatesOf (a .gates .now)) (a .fault) (a .vector) (k .place-in))
 
 cast-gate : tie.Need-cast-gate
 cast-gate c = search needs
@@ -33,62 +37,99 @@ gate-requires c κs = search needs
 run-without-requires : tie.Need-run-without-requires
 run-without-requires c κs =
     let a = c .before .before .before .before .args in
-    let w = names-gate (a .lines) (a .gates .now) (a .fault) (c .before .before .before .before .pre .0) (c .before .before .before .before .pre .1) (c .before .before .if1 .left) in
+    let w = names-gate (a .lines) (a .gates .now) (a .fault) (c .before .before .before .before .pre .0) (c .before .before .before .before .pre .1)
+    (c .before .before .if1 .left) in
     (search needs, (omega arith, omega arith))
 
 returns-2 : tie.Need-returns-2
 returns-2 c =
     let a = c .before .before .before .before .before .args in
     let number : c .before .before .gate .result .0 ≡ a .fault .place = c .before .before .gate .ensures in
-    c .run-without .ensures ∙ rw number (sym (faulty-missing-gate (gatesOf (a .gates .now)) (a .fault) (a .vector) (c .before .if2 .taken) ∙ run-without (gatesOf (a .gates .now)) (a .fault .place) (a .vector)))
+    c .run-without .ensures
+    ∙ rw number
+    (sym (faulty-missing-gate (gatesOf (a .gates .now)) (a .fault) (a .vector) (c .before .if2 .taken)
+    ∙ run-without (gatesOf (a .gates .now)) (a .fault .place) (a .vector)))
 
 gate-at-requires : tie.Need-gate-at-requires
 gate-at-requires c κs =
     let a = c .before .before .before .before .args in
-    let w = names-gate (a .lines) (a .gates .now) (a .fault) (c .before .before .before .before .pre .0) (c .before .before .before .before .pre .1) (c .before .before .if1 .left) in
+    let w = names-gate (a .lines) (a .gates .now) (a .fault) (c .before .before .before .before .pre .0) (c .before .before .before .before .pre .1)
+    (c .before .before .if1 .left) in
     (omega arith, omega arith)
 
 less-control-requires : tie.Need-less-control-requires
 less-control-requires c κs =
     let a = c .before .before .before .before .before .before .args in
-    let l = names-line (a .lines) (a .gates .now) (a .fault) (c .before .before .before .before .before .before .pre .0) (c .before .before .before .before .before .before .pre .1) in
+    let l = names-line (a .lines) (a .gates .now) (a .fault) (c .before .before .before .before .before .before .pre .0)
+    (c .before .before .before .before .before .before .pre .1) in
     omega arith
 
 run-changed-requires : tie.Need-run-changed-requires
 run-changed-requires c κs =
     let a = c .before .before .before .before .before .before .before .args in
-    let w = names-gate (a .lines) (a .gates .now) (a .fault) (c .before .before .before .before .before .before .before .pre .0) (c .before .before .before .before .before .before .before .pre .1) (c .before .before .before .before .before .if1 .left) in
-    let made : c .less-control .result ≡ lessControl (a .fault .line) (gateAt (gatesOf (a .gates .now)) (a .fault .place)) = cc in
-    (search needs, (omega arith, (omega arith, rw made (less-target (a .lines) (a .gates .now) (a .fault) (c .before .before .before .before .before .before .before .pre .0) (c .before .before .before .before .before .before .before .pre .1) (c .before .before .before .before .before .if1 .left)))))
+    let w = names-gate (a .lines) (a .gates .now) (a .fault) (c .before .before .before .before .before .before .before .pre .0)
+    (c .before .before .before .before .before .before .before .pre .1) (c .before .before .before .before .before .if1 .left) in
+    let made : c .less-control .result ≡ lessControl (a .fault .line) (gateAt (gatesOf (a .gates .now)) (a .fault .place)) = cc in (
+      search needs,
+      (
+        omega arith,
+        (
+          omega arith,
+          rw made (less-target (a .lines) (a .gates .now) (a .fault) (c .before .before .before .before .before .before .before .pre .0)
+              (c .before .before .before .before .before .before .before .pre .1) (c .before .before .before .before .before .if1 .left)),
+        ),
+      ),
+    )
 
 returns-3 : tie.Need-returns-3
 returns-3 c =
     let a = c .before .before .before .before .before .before .before .before .args in
-    let w = names-gate (a .lines) (a .gates .now) (a .fault) (c .before .before .before .before .before .before .before .before .pre .0) (c .before .before .before .before .before .before .before .before .pre .1) (c .before .before .before .before .before .before .if1 .left) in
+    let w = names-gate (a .lines) (a .gates .now) (a .fault) (c .before .before .before .before .before .before .before .before .pre .0)
+    (c .before .before .before .before .before .before .before .before .pre .1) (c .before .before .before .before .before .before .if1 .left) in
     let number : c .before .before .before .before .before .gate .result .0 ≡ a .fault .place = c .before .before .before .before .before .gate .ensures in
     let made : c .before .less-control .result ≡ lessControl (a .fault .line) (gateAt (gatesOf (a .gates .now)) (a .fault .place)) = cc in
-    c .run-changed .ensures ∙ rw (number, made) (sym (faulty-missing-control (gatesOf (a .gates .now)) (a .fault) (a .vector) (c .before .before .if3 .taken) ∙ run-changed (lessControl (a .fault .line)) (gatesOf (a .gates .now)) (a .fault .place) (a .vector) (w .0) (w .1)))
+    c .run-changed .ensures
+    ∙ rw (number, made)
+    (sym (faulty-missing-control (gatesOf (a .gates .now)) (a .fault) (a .vector) (c .before .before .if3 .taken)
+    ∙ run-changed (lessControl (a .fault .line)) (gatesOf (a .gates .now)) (a .fault .place) (a .vector) (w .0) (w .1)))
 
 more-control-requires : tie.Need-more-control-requires
 more-control-requires c κs =
     let a = c .before .before .before .before .before .before .args in
-    let l = names-line (a .lines) (a .gates .now) (a .fault) (c .before .before .before .before .before .before .pre .0) (c .before .before .before .before .before .before .pre .1) in
+    let l = names-line (a .lines) (a .gates .now) (a .fault) (c .before .before .before .before .before .before .pre .0)
+    (c .before .before .before .before .before .before .pre .1) in
     omega arith
 
 run-changed-requires-2 : tie.Need-run-changed-requires-2
 run-changed-requires-2 c κs =
     let a = c .before .before .before .before .before .before .before .args in
-    let w = names-gate (a .lines) (a .gates .now) (a .fault) (c .before .before .before .before .before .before .before .pre .0) (c .before .before .before .before .before .before .before .pre .1) (c .before .before .before .before .before .if1 .left) in
-    let made : c .more-control .result ≡ moreControl (a .fault .line) (gateAt (gatesOf (a .gates .now)) (a .fault .place)) = cc in
-    (search needs, (omega arith, (omega arith, rw made (more-target (a .lines) (a .gates .now) (a .fault) (c .before .before .before .before .before .before .before .pre .0) (c .before .before .before .before .before .before .before .pre .1) (c .before .before .before .before .before .if1 .left)))))
+    let w = names-gate (a .lines) (a .gates .now) (a .fault) (c .before .before .before .before .before .before .before .pre .0)
+    (c .before .before .before .before .before .before .before .pre .1) (c .before .before .before .before .before .if1 .left) in
+    let made : c .more-control .result ≡ moreControl (a .fault .line) (gateAt (gatesOf (a .gates .now)) (a .fault .place)) = cc in (
+      search needs,
+      (
+        omega arith,
+        (
+          omega arith,
+          rw made (more-target (a .lines) (a .gates .now) (a .fault) (c .before .before .before .before .before .before .before .pre .0)
+              (c .before .before .before .before .before .before .before .pre .1) (c .before .before .before .before .before .if1 .left)),
+        ),
+      ),
+    )
 
 returns-4 : tie.Need-returns-4
 returns-4 c =
     let a = c .before .before .before .before .before .before .before .before .args in
-    let w = names-gate (a .lines) (a .gates .now) (a .fault) (c .before .before .before .before .before .before .before .before .pre .0) (c .before .before .before .before .before .before .before .before .pre .1) (c .before .before .before .before .before .before .if1 .left) in
+    let w = names-gate (a .lines) (a .gates .now) (a .fault) (c .before .before .before .before .before .before .before .before .pre .0)
+    (c .before .before .before .before .before .before .before .before .pre .1) (c .before .before .before .before .before .before .if1 .left) in
     let number : c .before .before .before .before .before .gate .result .0 ≡ a .fault .place = c .before .before .before .before .before .gate .ensures in
     let made : c .before .more-control .result ≡ moreControl (a .fault .line) (gateAt (gatesOf (a .gates .now)) (a .fault .place)) = cc in
-    c .run-changed2 .ensures ∙ rw (number, made) (sym (faulty-extra-control (gatesOf (a .gates .now)) (a .fault) (a .vector) (class-last (a .lines) (gatesOf (a .gates .now)) (a .fault) (c .before .before .before .before .before .before .before .before .pre .1) (c .before .before .before .before .before .before .if1 .left) (c .before .before .before .before .if2 .left) (c .before .before .if3 .left)) ∙ run-changed (moreControl (a .fault .line)) (gatesOf (a .gates .now)) (a .fault .place) (a .vector) (w .0) (w .1)))
+    c .run-changed2 .ensures
+    ∙ rw (number, made)
+    (sym (faulty-extra-control (gatesOf (a .gates .now)) (a .fault) (a .vector)
+    (class-last (a .lines) (gatesOf (a .gates .now)) (a .fault) (c .before .before .before .before .before .before .before .before .pre .1)
+    (c .before .before .before .before .before .before .if1 .left) (c .before .before .before .before .if2 .left) (c .before .before .if3 .left))
+    ∙ run-changed (moreControl (a .fault .line)) (gatesOf (a .gates .now)) (a .fault .place) (a .vector) (w .0) (w .1)))
 
 pub faulty-run-spec : {M : Type 1} → statement M
 faulty-run-spec =

@@ -41,7 +41,9 @@ loop-again c =
     let l = c .before .before .before in
     let a = l .before .before .before .args in
     let number = records-count (a .entries .now) in
-    l .loop .inv ∙ force-more (faultsOf (a .entries .now)) (l .loop .i) (a .level) (l .loop .now) (omega arith) ∙ ap (forceAt (drop (l .loop .i + 1) (faultsOf (a .entries .now))) (a .level)) (sym (c .force-entry .ensures ∙ rw (c .before .record-at .ensures)))
+    l .loop .inv ∙ force-more (faultsOf (a .entries .now)) (l .loop .i) (a .level) (l .loop .now) (omega arith)
+    ∙ ap (forceAt (drop (l .loop .i + 1) (faultsOf (a .entries .now))) (a .level))
+    (sym (c .force-entry .ensures ∙ rw (c .before .record-at .ensures)))
 
 returns : tie.Need-returns Inv-loop μ-loop
 returns c =

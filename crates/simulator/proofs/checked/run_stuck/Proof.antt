@@ -16,7 +16,9 @@ use Rattle.simulator.proofs.checked.run_stuck.Statement.{statement}
 use Rattle.simulator.proofs.checked.run_stuck.Tie as tie
 
 abbrev Inv-loop : tie.InvT-loop
-Inv-loop lines gates entries vector end state₀ i₀ state i = (end ≡ length (gatesOf gates)) × ((i ≤ end) × (stuckRun (faultsOf entries) 0 (gatesOf gates) vector ≡ stuckRun (faultsOf entries) i (drop i (gatesOf gates)) state))
+Inv-loop lines gates entries vector end state₀ i₀ state i =
+    (end ≡ length (gatesOf gates))
+    × ((i ≤ end) × (stuckRun (faultsOf entries) 0 (gatesOf gates) vector ≡ stuckRun (faultsOf entries) i (drop i (gatesOf gates)) state))
 
 abbrev μ-loop : tie.MeasureT-loop
 μ-loop lines gates entries vector end state₀ i₀ state i = end - i
@@ -55,13 +57,15 @@ loop-again : tie.Need-loop-again Inv-loop μ-loop
 loop-again c =
     let l = c .before .before .before .before .before .before in
     let a = l .before .before .before .args in
-    let gate = c .before .gate-at .ensures ∙ gate-entry (gatesOf (a .gates .now)) (l .loop .i) (c .before .before .gate-after .result .0) (omega arith) in
+    let gate = c .before .gate-at .ensures ∙ gate-entry (gatesOf (a .gates .now)) (l .loop .i) (c .before .before .gate-after .result .0)
+    (omega arith) in
     let forced = c .before .before .before .before .force-level .ensures in (
       l .loop .inv .0,
       (
         omega arith,
         l .loop .inv .1 .1 ∙ stuck-more (faultsOf (a .entries .now)) (gatesOf (a .gates .now)) (l .loop .i) (l .loop .state) (omega arith)
-            ∙ ap (stuckRun (faultsOf (a .entries .now)) (l .loop .i + 1) (drop (l .loop .i + 1) (gatesOf (a .gates .now)))) (sym (c .step .ensures ∙ rw (gate, forced))),
+            ∙ ap (stuckRun (faultsOf (a .entries .now)) (l .loop .i + 1) (drop (l .loop .i + 1) (gatesOf (a .gates .now))))
+            (sym (c .step .ensures ∙ rw (gate, forced))),
       ),
     )
 
@@ -76,7 +80,9 @@ returns c =
     let l = c .before .before in
     let a = l .before .before .before .args in
     let last : l .loop .i ≡ length (a .gates .now) / 3 = omega arith in
-    c .force-level2 .ensures ∙ sym (l .loop .inv .1 .1 ∙ stuck-end (faultsOf (a .entries .now)) (gatesOf (a .gates .now)) (l .loop .i) (l .loop .state) (omega arith) ∙ rw last)
+    c .force-level2 .ensures
+    ∙ sym (l .loop .inv .1 .1 ∙ stuck-end (faultsOf (a .entries .now)) (gatesOf (a .gates .now)) (l .loop .i) (l .loop .state) (omega arith)
+    ∙ rw last)
 
 pub run-stuck-spec : {M : Type 1} → statement M
 run-stuck-spec =

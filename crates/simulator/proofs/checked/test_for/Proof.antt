@@ -25,14 +25,16 @@ level-requires c κs = search needs
 run-backward-requires : tie.Need-run-backward-requires
 run-backward-requires c κs =
     let a = c .before .before .before .before .before .args in
-    let k = stuck-fault (a .lines) (a .gates .now) (a .fault) (c .before .before .before .before .before .pre .0) (c .before .before .before .before .before .pre .1) (c .before .if1 .taken) in
+    let k = stuck-fault (a .lines) (a .gates .now) (a .fault) (c .before .before .before .before .before .pre .0)
+    (c .before .before .before .before .before .pre .1) (c .before .if1 .taken) in
     (search needs, omega arith)
 
 returns : tie.Need-returns
 unfolding testFor
 returns c =
     let a = c .before .before .before .before .before .before .args in
-    let level : c .before .level .result .0 ≡ testLevel (a .fault) = c .before .level .ensures ∙ sym (level-stuck (a .fault) (c .before .before .if1 .taken)) in
+    let level : c .before .level .result .0 ≡ testLevel (a .fault) = c .before .level .ensures
+    ∙ sym (level-stuck (a .fault) (c .before .before .if1 .taken)) in
     c .run-backward .ensures ∙ rw (level, c .before .before .before .before .test-state .ensures)
 
 cast-gate : tie.Need-cast-gate
@@ -44,13 +46,15 @@ gate-requires c κs = search needs
 level-read-requires : tie.Need-level-read-requires
 level-read-requires c κs =
     let a = c .before .before .before .before .before .args in
-    let w = names-gate (a .lines) (a .gates .now) (a .fault) (c .before .before .before .before .before .pre .0) (c .before .before .before .before .before .pre .1) (c .before .if1 .left) in
+    let w = names-gate (a .lines) (a .gates .now) (a .fault) (c .before .before .before .before .before .pre .0)
+    (c .before .before .before .before .before .pre .1) (c .before .if1 .left) in
     omega arith
 
 run-backward-requires-2 : tie.Need-run-backward-requires-2
 run-backward-requires-2 c κs =
     let a = c .before .before .before .before .before .before .args in
-    let w = names-gate (a .lines) (a .gates .now) (a .fault) (c .before .before .before .before .before .before .pre .0) (c .before .before .before .before .before .before .pre .1) (c .before .before .if1 .left) in
+    let w = names-gate (a .lines) (a .gates .now) (a .fault) (c .before .before .before .before .before .before .pre .0)
+    (c .before .before .before .before .before .before .pre .1) (c .before .before .if1 .left) in
     (search needs, omega arith)
 
 returns-2 : tie.Need-returns-2

@@ -29,14 +29,18 @@ returns : tie.Need-returns
 unfolding catchRows
 returns c =
     let a = c .before .before .before .before .before .args in
-    refused-on (circuitRows (a .lines) (a .gates .now) ++ vectorRows (a .lines) (a .vector)) (faultRows (a .lines) (a .gates .now) (a .fault)) fine _ _ (ap found (sym (c .before .refusal .given .1)) ∙ c .before .before .before .check-vector .ensures)
+    refused-on (circuitRows (a .lines) (a .gates .now) ++ vectorRows (a .lines) (a .vector))
+    (faultRows (a .lines) (a .gates .now) (a .fault)) fine _ _
+    (ap found (sym (c .before .refusal .given .1)) ∙ c .before .before .before .check-vector .ensures)
 
 returns-2 : tie.Need-returns-2
 unfolding catchRows
 returns-2 c =
     let a = c .before .before .before .before .before .args in
     let passed = ap found (sym (c .before .enum-told .given .1)) ∙ c .before .before .before .check-vector .ensures in
-    c .check-fault .ensures ∙ sym (fine-on (circuitRows (a .lines) (a .gates .now) ++ vectorRows (a .lines) (a .vector)) (faultRows (a .lines) (a .gates .now) (a .fault)) fine passed)
+    c .check-fault .ensures
+    ∙ sym (fine-on (circuitRows (a .lines) (a .gates .now) ++ vectorRows (a .lines) (a .vector))
+    (faultRows (a .lines) (a .gates .now) (a .fault)) fine passed)
 
 pub check-catch-spec : {M : Type 1} → statement M
 check-catch-spec =

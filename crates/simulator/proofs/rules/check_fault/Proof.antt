@@ -34,34 +34,40 @@ unless-requires-4 c κs = search needs
 returns : tie.Need-returns
 returns c =
     let a = c .before .before .before .before .args in
-    c .unless .ensures ∙ nine (a .lines) (a .gates .now) (a .fault) _ (c .before .is-stuck-at .ensures ∙ sym (class-one (a .lines) (gatesOf (a .gates .now)) (a .fault) (c .before .before .match .keys1)))
+    c .unless .ensures ∙ nine (a .lines) (a .gates .now) (a .fault) _
+    (c .before .is-stuck-at .ensures ∙ sym (class-one (a .lines) (gatesOf (a .gates .now)) (a .fault) (c .before .before .match .keys1)))
 
 returns-2 : tie.Need-returns-2
 returns-2 c =
     let a = c .before .before .before .before .args in
-    c .unless2 .ensures ∙ nine (a .lines) (a .gates .now) (a .fault) _ (c .before .is-missing-gate .ensures ∙ sym (class-two (a .lines) (gatesOf (a .gates .now)) (a .fault) (c .before .before .match .keys2)))
+    c .unless2 .ensures ∙ nine (a .lines) (a .gates .now) (a .fault) _
+    (c .before .is-missing-gate .ensures ∙ sym (class-two (a .lines) (gatesOf (a .gates .now)) (a .fault) (c .before .before .match .keys2)))
 
 returns-3 : tie.Need-returns-3
 returns-3 c =
     let a = c .before .before .before .before .args in
-    c .unless3 .ensures ∙ nine (a .lines) (a .gates .now) (a .fault) _ (c .before .is-missing-control .ensures ∙ sym (class-three (a .lines) (gatesOf (a .gates .now)) (a .fault) (c .before .before .match .keys3)))
+    c .unless3 .ensures ∙ nine (a .lines) (a .gates .now) (a .fault) _
+    (c .before .is-missing-control .ensures ∙ sym (class-three (a .lines) (gatesOf (a .gates .now)) (a .fault) (c .before .before .match .keys3)))
 
 returns-4 : tie.Need-returns-4
 returns-4 c =
     let a = c .before .before .before .before .args in
-    c .unless4 .ensures ∙ nine (a .lines) (a .gates .now) (a .fault) _ (c .before .is-extra-control .ensures ∙ sym (class-four (a .lines) (gatesOf (a .gates .now)) (a .fault) (c .before .before .match .keys4)))
+    c .unless4 .ensures ∙ nine (a .lines) (a .gates .now) (a .fault) _
+    (c .before .is-extra-control .ensures ∙ sym (class-four (a .lines) (gatesOf (a .gates .now)) (a .fault) (c .before .before .match .keys4)))
 
 returns-5 : tie.Need-returns-5
 returns-5 c =
     let a = c .before .before .args in
     let zero : a .fault .class ≡ 0 = c .match .keys5 in
-    nine-none (a .lines) (a .gates .now) (a .fault) (class-none (a .lines) (gatesOf (a .gates .now)) (a .fault) (λ e. omega arith) (λ e. omega arith) (λ e. omega arith) (λ e. omega arith))
+    nine-none (a .lines) (a .gates .now) (a .fault)
+    (class-none (a .lines) (gatesOf (a .gates .now)) (a .fault) (λ e. omega arith) (λ e. omega arith) (λ e. omega arith) (λ e. omega arith))
 
 returns-6 : tie.Need-returns-6
 returns-6 c =
     let a = c .before .before .args in
     let r = c .match .rest in
-    nine-none (a .lines) (a .gates .now) (a .fault) (class-none (a .lines) (gatesOf (a .gates .now)) (a .fault) (r .0 .0 .0 .0 .1) (r .0 .0 .0 .1) (r .0 .0 .1) (r .0 .1))
+    nine-none (a .lines) (a .gates .now) (a .fault)
+    (class-none (a .lines) (gatesOf (a .gates .now)) (a .fault) (r .0 .0 .0 .0 .1) (r .0 .0 .0 .1) (r .0 .0 .1) (r .0 .1))
 
 pub check-fault-spec : {M : Type 1} → statement M
 check-fault-spec =

@@ -28,14 +28,18 @@ returns : tie.Need-returns
 unfolding multipleRows
 returns c =
     let a = c .before .before .before .before .before .before .args in
-    refused-on (circuitRows (a .lines) (a .gates .now) ++ vectorRows (a .lines) (a .vector)) (entriesRows (a .lines) (a .gates .now) (a .entries .now)) fine _ _ (ap found (sym (c .before .refusal .given .1)) ∙ c .before .before .before .check-vector .ensures)
+    refused-on (circuitRows (a .lines) (a .gates .now) ++ vectorRows (a .lines) (a .vector))
+    (entriesRows (a .lines) (a .gates .now) (a .entries .now)) fine _ _
+    (ap found (sym (c .before .refusal .given .1)) ∙ c .before .before .before .check-vector .ensures)
 
 returns-2 : tie.Need-returns-2
 unfolding multipleRows
 returns-2 c =
     let a = c .before .before .before .before .before .before .args in
     let passed = ap found (sym (c .before .enum-told .given .1)) ∙ c .before .before .before .check-vector .ensures in
-    c .check-entries .ensures ∙ sym (fine-on (circuitRows (a .lines) (a .gates .now) ++ vectorRows (a .lines) (a .vector)) (entriesRows (a .lines) (a .gates .now) (a .entries .now)) fine passed)
+    c .check-entries .ensures
+    ∙ sym (fine-on (circuitRows (a .lines) (a .gates .now) ++ vectorRows (a .lines) (a .vector))
+    (entriesRows (a .lines) (a .gates .now) (a .entries .now)) fine passed)
 
 pub check-multiple-spec : {M : Type 1} → statement M
 check-multiple-spec =

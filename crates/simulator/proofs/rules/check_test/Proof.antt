@@ -28,7 +28,8 @@ returns : tie.Need-returns
 unfolding testRows
 returns c =
     let a = c .before .before .before .before .before .args in
-    refused-on (circuitRows (a .lines) (a .gates .now)) (faultRows (a .lines) (a .gates .now) (a .fault)) fine _ _ (ap found (sym (c .before .refusal .given .1)) ∙ c .before .before .before .check-circuit .ensures)
+    refused-on (circuitRows (a .lines) (a .gates .now)) (faultRows (a .lines) (a .gates .now) (a .fault)) fine _ _
+    (ap found (sym (c .before .refusal .given .1)) ∙ c .before .before .before .check-circuit .ensures)
 
 returns-2 : tie.Need-returns-2
 unfolding testRows

@@ -18,7 +18,9 @@ use Rattle.simulator.proofs.rules.first_bad_entry.Statement.{statement}
 use Rattle.simulator.proofs.rules.first_bad_entry.Tie as tie
 
 abbrev Inv-loop : tie.InvT-loop
-Inv-loop lines gates entries whole i₀ i = (i ≤ whole) × (firstBadRecord (badEntry lines (gatesOf gates)) entries ≡ firstBadFrom (badEntry lines (gatesOf gates)) (not (eqb (length entries % 4) 0)) (i + 1) (drop i (faultsOf entries)))
+Inv-loop lines gates entries whole i₀ i = (i ≤ whole)
+    × (firstBadRecord (badEntry lines (gatesOf gates)) entries ≡ firstBadFrom (badEntry lines (gatesOf gates)) (not (eqb (length entries % 4) 0))
+    (i + 1) (drop i (faultsOf entries)))
 
 abbrev μ-loop : tie.MeasureT-loop
 μ-loop lines gates entries whole i₀ i = whole - i
@@ -41,8 +43,10 @@ returns c =
     let l = c .before .before .before .before in
     let a = l .before .before .before .args in
     let number = records-count (a .entries .now) in
-    let bad = ap (badEntry (a .lines) (gatesOf (a .gates .now))) (sym (c .before .before .record-at .ensures)) ∙ sym (c .before .bad-entry .ensures) ∙ c .if1 .taken in
-    sym (l .loop .inv .1 ∙ bad-found (badEntry (a .lines) (gatesOf (a .gates .now))) _ (faultsOf (a .entries .now)) (l .loop .i) noFault (omega arith) bad)
+    let bad = ap (badEntry (a .lines) (gatesOf (a .gates .now))) (sym (c .before .before .record-at .ensures)) ∙ sym (c .before .bad-entry .ensures)
+    ∙ c .if1 .taken in
+    sym (l .loop .inv .1 ∙ bad-found (badEntry (a .lines) (gatesOf (a .gates .now))) _ (faultsOf (a .entries .now)) (l .loop .i) noFault
+    (omega arith) bad)
 
 add-i : tie.Need-add-i Inv-loop μ-loop
 add-i c = omega arith
@@ -55,8 +59,12 @@ loop-again c =
     let l = c .before .before .before .before in
     let a = l .before .before .before .args in
     let number = records-count (a .entries .now) in
-    let good = ap (badEntry (a .lines) (gatesOf (a .gates .now))) (sym (c .before .before .record-at .ensures)) ∙ sym (c .before .bad-entry .ensures) ∙ c .if1 .left in
-    (omega arith, l .loop .inv .1 ∙ bad-passed (badEntry (a .lines) (gatesOf (a .gates .now))) _ (faultsOf (a .entries .now)) (l .loop .i) noFault (omega arith) good)
+    let good = ap (badEntry (a .lines) (gatesOf (a .gates .now))) (sym (c .before .before .record-at .ensures)) ∙ sym (c .before .bad-entry .ensures)
+    ∙ c .if1 .left in (
+      omega arith,
+      l .loop .inv .1 ∙ bad-passed (badEntry (a .lines) (gatesOf (a .gates .now))) _ (faultsOf (a .entries .now)) (l .loop .i) noFault
+          (omega arith) good,
+    )
 
 add-result-2 : tie.Need-add-result-2 Inv-loop μ-loop
 add-result-2 c = omega arith
@@ -66,7 +74,8 @@ returns-2 c =
     let l = c .before .before in
     let a = l .before .before .before .args in
     let number = records-count (a .entries .now) in
-    sym (l .loop .inv .1 ∙ bad-end (badEntry (a .lines) (gatesOf (a .gates .now))) (not (eqb (length (a .entries .now) % 4) 0)) (faultsOf (a .entries .now)) (l .loop .i) (omega arith) ∙ rw (eq-eqb (length (a .entries .now) % 4) 0 (c .if2 .taken)))
+    sym (l .loop .inv .1 ∙ bad-end (badEntry (a .lines) (gatesOf (a .gates .now))) (not (eqb (length (a .entries .now) % 4) 0))
+    (faultsOf (a .entries .now)) (l .loop .i) (omega arith) ∙ rw (eq-eqb (length (a .entries .now) % 4) 0 (c .if2 .taken)))
 
 returns-3 : tie.Need-returns-3 Inv-loop μ-loop
 returns-3 c =
@@ -74,7 +83,8 @@ returns-3 c =
     let a = l .before .before .before .args in
     let number = records-count (a .entries .now) in
     let last : l .loop .i ≡ length (a .entries .now) / 4 = omega arith in
-    sym (l .loop .inv .1 ∙ bad-end (badEntry (a .lines) (gatesOf (a .gates .now))) (not (eqb (length (a .entries .now) % 4) 0)) (faultsOf (a .entries .now)) (l .loop .i) (omega arith) ∙ rw (ne-eqb (length (a .entries .now) % 4) 0 (c .if2 .left), last))
+    sym (l .loop .inv .1 ∙ bad-end (badEntry (a .lines) (gatesOf (a .gates .now))) (not (eqb (length (a .entries .now) % 4) 0))
+    (faultsOf (a .entries .now)) (l .loop .i) (omega arith) ∙ rw (ne-eqb (length (a .entries .now) % 4) 0 (c .if2 .left), last))
 
 pub first-bad-entry-spec : {M : Type 1} → statement M
 first-bad-entry-spec =

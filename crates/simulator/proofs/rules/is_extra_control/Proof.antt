@@ -71,10 +71,17 @@ unfolding isExtraControl
 returns-6 c =
     let a = c .before .before .before .before .before .before .before .before .before .before .before .args in
     let gs = gatesOf (a .gates .now) in
-    let there = gate-there (a .lines) gs (a .fault) (c .before .before .before .before .before .before .before .before .before .if1 .left) (omega arith) in
+    let there = gate-there (a .lines) gs (a .fault) (c .before .before .before .before .before .before .before .before .before .if1 .left)
+    (omega arith) in
     let control : isControl (gateAt gs (a .fault .place)) (a .fault .line) ≡ c .before .before .before .before .is-control .result = cc in
     let target : gateAt gs (a .fault .place) .target ≡ c .before .before .before .before .before .gate-at .result .target = cc in
-    rw (there, lt-ltb (a .fault .line) (a .lines) (omega arith), control, c .before .before .before .if4 .left, ne-eqb (a .fault .line) _ (λ e. c .before .if5 .left (e ∙ target)))
+    rw (
+      there,
+      lt-ltb (a .fault .line) (a .lines) (omega arith),
+      control,
+      c .before .before .before .if4 .left,
+      ne-eqb (a .fault .line) _ (λ e. c .before .if5 .left (e ∙ target)),
+    )
 
 pub is-extra-control-spec : {M : Type 1} → statement M
 is-extra-control-spec =

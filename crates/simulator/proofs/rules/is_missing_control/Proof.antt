@@ -35,7 +35,11 @@ returns-3 c =
     let a = c .before .before .before .before .args in
     let gs = gatesOf (a .gates .now) in
     let there = gate-there (a .lines) gs (a .fault) (c .before .before .if1 .left) (omega arith) in
-    rw (there, control-above (a .lines) (gateAt gs (a .fault .place)) (a .fault .line) (gate-ok (a .lines) (a .gates .now) (a .fault .place) (search needs) (omega arith) (omega arith)) (c .if3 .taken))
+    rw (
+      there,
+      control-above (a .lines) (gateAt gs (a .fault .place)) (a .fault .line)
+          (gate-ok (a .lines) (a .gates .now) (a .fault .place) (search needs) (omega arith) (omega arith)) (c .if3 .taken),
+    )
 
 cast-gate : tie.Need-cast-gate
 cast-gate c = search needs

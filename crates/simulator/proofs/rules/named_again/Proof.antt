@@ -13,7 +13,8 @@ use Rattle.simulator.proofs.rules.named_again.Statement.{statement}
 use Rattle.simulator.proofs.rules.named_again.Tie as tie
 
 abbrev Inv-loop : tie.InvT-loop
-Inv-loop entries ahead whole first i₀ i = (first ≡ getD (faultsOf entries) ahead noFault) × (some (sameSite first) (drop i₀ (faultsOf entries)) ≡ some (sameSite first) (drop i (faultsOf entries)))
+Inv-loop entries ahead whole first i₀ i = (first ≡ getD (faultsOf entries) ahead noFault)
+    × (some (sameSite first) (drop i₀ (faultsOf entries)) ≡ some (sameSite first) (drop i (faultsOf entries)))
 
 abbrev μ-loop : tie.MeasureT-loop
 μ-loop entries ahead whole first i₀ i = whole - i

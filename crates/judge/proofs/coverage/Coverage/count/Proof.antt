@@ -26,7 +26,8 @@ counted-requires c κs =
 returns : tie.Need-returns
 returns c =
     let a = c .before .before .before .before .before .args in
-    refused-all (countRows (a .lines) (a .gates .now) (a .class)) _ _ _ (ap found (sym (c .before .refusal .given .1)) ∙ c .before .before .before .check-count .ensures)
+    refused-all (countRows (a .lines) (a .gates .now) (a .class)) _ _ _
+    (ap found (sym (c .before .refusal .given .1)) ∙ c .before .before .before .check-count .ensures)
 
 returns-2 : tie.Need-returns-2
 returns-2 c =

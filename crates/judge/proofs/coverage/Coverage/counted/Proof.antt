@@ -15,7 +15,8 @@ returns : tie.Need-returns
 returns c =
     let a = c .before .before .before .before .before .before .args in
     let class : a .class ≡ 1 = c .before .before .before .before .if1 .taken in
-    c .tally-levels .ensures ∙ rw (class, ← list-one (a .lines) (gatesOf (a .gates .now)) 1 refl) (sym (verdict-levels (a .lines) (gatesOf (a .gates .now)) (a .t1)))
+    c .tally-levels .ensures ∙ rw (class, ← list-one (a .lines) (gatesOf (a .gates .now)) 1 refl)
+    (sym (verdict-levels (a .lines) (gatesOf (a .gates .now)) (a .t1)))
 
 tally-gates-requires : tie.Need-tally-gates-requires
 tally-gates-requires c κs = search needs

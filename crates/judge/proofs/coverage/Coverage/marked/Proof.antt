@@ -20,11 +20,11 @@ returns : tie.Need-returns
 unfolding withVector
 returns c =
     rw (
-    c .before .before .before .before .before .before .mark-levels .ensures .0,
-    c .before .before .before .before .before .before .mark-levels .ensures .1,
-    c .before .before .before .before .mark-missing-gates .ensures,
-    c .before .before .mark-missing-controls .ensures,
-    c .mark-extra-controls .ensures,
+      c .before .before .before .before .before .before .mark-levels .ensures .0,
+      c .before .before .before .before .before .before .mark-levels .ensures .1,
+      c .before .before .before .before .mark-missing-gates .ensures,
+      c .before .before .mark-missing-controls .ensures,
+      c .mark-extra-controls .ensures,
     )
 
 pub marked-spec : {M : Type 1} → statement M

@@ -29,7 +29,8 @@ returns : tie.Need-returns
 returns c =
     let a = c .before .before .before .before .before .args in
     let wrong = ap found (sym (c .before .refusal .given .1)) ∙ c .before .before .before .check-vector .ensures in
-    let some = refused-number (circuitRows (a .lines) (a .gates .now) ++ vectorRows (a .lines) (a .vector)) _ _ (vector-numbered (a .lines) (a .gates .now) (a .vector)) wrong in
+    let some = refused-number (circuitRows (a .lines) (a .gates .now) ++ vectorRows (a .lines) (a .vector)) _ _
+    (vector-numbered (a .lines) (a .gates .now) (a .vector)) wrong in
     (rw (ne-eqb _ 0 some) wrong, after-refused (circuitRows (a .lines) (a .gates .now) ++ vectorRows (a .lines) (a .vector)) _ (a .self) _ _ wrong)
 
 returns-2 : tie.Need-returns-2

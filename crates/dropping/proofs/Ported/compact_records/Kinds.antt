@@ -1,0 +1,15 @@
+-- The kinds of the parameters and of the result of `dropping::checked::compact_records`. Made by docs/walk/tools, and not written by hand.
+use Rattle.dropping.proofs.Faults as FR
+use borrow.Fn.Kinds
+use borrow.Kind.MutSlice
+use borrow.Kind.ShrSlice
+use borrow.Table.Referent
+use mathlib.Core.List
+use mir.Syntax
+
+abbrev pub ps : List.List (Kinds.PK 2)
+ps = List._∷_ (MutSlice.pMutS FR.R 0 tt) (List._∷_ (Kinds.pNum Syntax.w32) (List._∷_ (ShrSlice.pShrS (Referent.rtF (Referent.fInt Syntax.w32)) 1 tt)
+    (List._∷_ (Kinds.pNum Syntax.w32) List.[])))
+
+abbrev pub r : Kinds.RK 2
+r = Kinds.rNum Syntax.w64

@@ -1,0 +1,74 @@
+-- `dropping::checked::compact` meets its contract: before each turn the list is what stays so far, blank records,
+-- and what is still to be seen. Assumes nothing.
+use Prim.Native.Nat.{_*_, _≤_, _-_}
+use mathlib.Core.Path.{_≡_, refl, ap, sym, _∙_}
+use native.Mathlib.Omega.{arith}
+use lib.ListN.{length}
+use Rattle.circuit.specs.Gates.{gatesOf}
+use Rattle.simulator.specs.Rules.{faultsOf}
+use Rattle.simulator.proofs.RecordLaws.{records-count}
+use Rattle.dropping.specs.Dropping.{numbersOf}
+use Rattle.dropping.proofs.PlainLaws.{numbers-faults}
+use Rattle.dropping.proofs.DropLaws.{Going, start, long, below, fault-here, on, as-is, done-number, done-list}
+use Rattle.dropping.proofs.checked.compact.Statement.{statement}
+use Rattle.dropping.proofs.checked.compact.Tie as tie
+
+abbrev Inv-loop : tie.InvT-loop
+Inv-loop lines gates vector list₀ whole left₀ i₀ list left i = (i ≤ whole) ×
+    ((length list ≡ length list₀) × Going lines (gatesOf gates) vector (faultsOf list₀) (faultsOf list) left i)
+
+abbrev μ-loop : tie.MeasureT-loop
+μ-loop lines gates vector list₀ whole left₀ i₀ list left i = whole - i
+
+loop-holds : tie.Need-loop-holds Inv-loop μ-loop
+loop-holds c =
+    let a = c .before .before .args in
+    (omega arith, (refl, start (a .lines) (gatesOf (a .gates .now)) (a .vector) (faultsOf (a .list .now)) (c .before .before .pre .1 .faults)))
+
+take-record-requires : tie.Need-take-record-requires Inv-loop μ-loop
+take-record-requires c κs =
+    let a = c .before .before .before .before .before .args in
+    let l = c .before .before .loop in
+    let going = l .inv .1 .1 in
+    let number = records-count (l .list) in
+    (c .before .before .before .before .before .pre .0, ((omega (arith, l .inv .1 .0), below going), fault-here going (omega (arith, l .inv .1 .0))))
+
+add-i : tie.Need-add-i Inv-loop μ-loop
+add-i c = omega arith
+
+loop-less : tie.Need-loop-less Inv-loop μ-loop
+loop-less c = omega arith
+
+loop-again : tie.Need-loop-again Inv-loop μ-loop
+loop-again c =
+    let l = c .before .before .before .before .before .loop in
+    let turn = c .before .before .take-record .ensures in
+    let number = records-count (l .list) in
+    (omega arith, (turn .1 .1 ∙ l .inv .1 .0, as-is (on (l .inv .1 .1) (omega (arith, l .inv .1 .0)) _ refl) (turn .1 .0) (turn .0)))
+
+same-length : tie.Need-same-length Inv-loop μ-loop
+same-length c = c .before .loop .inv .1 .0
+
+returns : tie.Need-returns Inv-loop μ-loop
+returns c =
+    let l = c .before .loop in
+    let going = l .inv .1 .1 in
+    let number = records-count (l .list) in
+    let end : length (faultsOf (l .list)) ≤ l .i = omega (arith, l .inv .1 .0) in
+    let whole : length (l .list) ≡ 4 * length (faultsOf (l .list)) = omega
+    (arith, l .inv .1 .0, long going, c .before .before .before .before .pre .1 .whole) in
+    (done-number going end, sym (numbers-faults (l .list) whole) ∙ ap numbersOf (done-list going end))
+
+pub compact-spec : {M : Type 1} → statement M
+compact-spec =
+    tie.close
+    (tie.spec
+    Inv-loop
+    μ-loop
+    loop-holds
+    take-record-requires
+    add-i
+    loop-less
+    loop-again
+    same-length
+    returns)

@@ -1,0 +1,69 @@
+-- `dropping::drop` meets its contract: the check is the whole table, and what passes it is a list of faults of a sound circuit. Assumes nothing.
+use mathlib.Core.Path.{ap, sym, _∙_}
+use mathlib.Core.List.{[], _∷_}
+use Rattle.refusals.specs.Tables.Told.{answered}
+use Rattle.refusals.specs.Places.{inWord}
+use Rattle.refusals.specs.Checks.{found}
+use Rattle.refusals.proofs.Tables.{refused-all, fine-all, after-refused, after-fine}
+use Rattle.dropping.specs.Rules.{dropRows}
+use Rattle.dropping.proofs.RuleLaws.{drop-ok}
+use borrow.Author.Needs.{needs}
+use Rattle.dropping.proofs.drop.Statement.{statement}
+use Rattle.dropping.proofs.drop.Tie as tie
+
+check-drop-requires : tie.Need-check-drop-requires
+check-drop-requires c κs = search needs
+
+enum-known-refusal : tie.Need-enum-known-refusal
+enum-known-refusal c = search needs
+
+enum-told : tie.Need-enum-told
+enum-told c = search needs
+
+compact-requires : tie.Need-compact-requires
+compact-requires c κs =
+    let a = c .before .before .before .before .before .before .before .args in
+    let ok = drop-ok (a .lines) (a .gates .now) (a .vector) (a .list .now)
+    (ap found (sym (c .before .enum-told .given .1)) ∙ c .before .before .before .check-drop .ensures) in
+    (ok .vector .circuit, ok .records)
+
+in-word-requires : tie.Need-in-word-requires
+in-word-requires c κs = search needs
+
+same-length : tie.Need-same-length
+same-length c = search needs
+
+returns : tie.Need-returns
+returns c =
+    let a = c .before .before .before .before .before .before .before .args in
+    let rows = dropRows (a .lines) (a .gates .now) (a .vector) (a .list .now) in
+    let broken = ap found (sym (c .before .refusal .given .1)) ∙ c .before .before .before .check-drop .ensures in
+    (refused-all rows _ _ _ broken, after-refused rows _ _ _ _ broken)
+
+same-length-2 : tie.Need-same-length-2
+same-length-2 c = search needs
+
+returns-2 : tie.Need-returns-2
+returns-2 c =
+    let a = c .before .before .before .before .before .before .before .before .before .before .before .args in
+    let rows = dropRows (a .lines) (a .gates .now) (a .vector) (a .list .now) in
+    let passed = ap found (sym (c .before .before .before .before .before .enum-told .given .1)) ∙ c .before .before .before .before
+    .before .before .before .check-drop .ensures in
+    let left = c .before .before .before .compact .ensures in (
+      ap (λ number. answered (number ∷ [])) (c .in-word .ensures ∙ ap inWord (left .0)) ∙ fine-all rows _ passed,
+      left .1 ∙ after-fine rows _ _ passed,
+    )
+
+pub drop-spec : {M : Type 1} → statement M
+drop-spec =
+    tie.close
+    (tie.spec
+    check-drop-requires
+    enum-known-refusal
+    enum-told
+    compact-requires
+    in-word-requires
+    same-length
+    returns
+    same-length-2
+    returns-2)

@@ -1,0 +1,56 @@
+-- `dropping::rules::check_drop` meets its contract: the rules of the circuit and the vector come first, then rule 9 of the records. Assumes nothing.
+use mathlib.Core.Path.{ap, sym, _∙_}
+use mathlib.Core.List.{_++_}
+use Rattle.refusals.specs.Tables.{firstOf}
+use Rattle.refusals.specs.Checks.{fine, found}
+use Rattle.refusals.proofs.Tables.{refused-on, fine-on}
+use Rattle.circuit.specs.Rules.{circuitRows, vectorRows}
+use Rattle.circuit.proofs.RuleLaws.{vector-ok}
+use Rattle.dropping.specs.Rules.{recordRows, dropRows}
+use borrow.Author.Needs.{needs}
+use Rattle.dropping.proofs.rules.check_drop.Statement.{statement}
+use Rattle.dropping.proofs.rules.check_drop.Tie as tie
+
+check-vector-requires : tie.Need-check-vector-requires
+check-vector-requires c κs = search needs
+
+enum-known-refusal : tie.Need-enum-known-refusal
+enum-known-refusal c = search needs
+
+enum-told : tie.Need-enum-told
+enum-told c = search needs
+
+first-bad-record-requires : tie.Need-first-bad-record-requires
+first-bad-record-requires c κs =
+    let a = c .before .before .before .before .before .args in
+    vector-ok (a .lines) (a .gates .now) (a .vector) (ap found (sym (c .enum-told .given .1)) ∙ c .before .before .check-vector .ensures) .circuit
+
+check-records-requires : tie.Need-check-records-requires
+check-records-requires c κs = search needs
+
+returns : tie.Need-returns
+unfolding dropRows
+returns c =
+    let a = c .before .before .before .before .before .before .args in
+    refused-on (circuitRows (a .lines) (a .gates .now) ++ vectorRows (a .lines) (a .vector)) _ fine _ _
+    (ap found (sym (c .before .refusal .given .1)) ∙ c .before .before .before .check-vector .ensures)
+
+returns-2 : tie.Need-returns-2
+unfolding dropRows
+returns-2 c =
+    let a = c .before .before .before .before .before .before .before .args in
+    let passed = ap found (sym (c .before .before .enum-told .given .1)) ∙ c .before .before .before .before .check-vector .ensures in
+    c .check-records .ensures ∙ ap (λ bad. firstOf (recordRows bad) fine) (c .before .first-bad-record .ensures)
+    ∙ sym (fine-on (circuitRows (a .lines) (a .gates .now) ++ vectorRows (a .lines) (a .vector)) _ fine passed)
+
+pub check-drop-spec : {M : Type 1} → statement M
+check-drop-spec =
+    tie.close
+    (tie.spec
+    check-vector-requires
+    enum-known-refusal
+    enum-told
+    first-bad-record-requires
+    check-records-requires
+    returns
+    returns-2)
