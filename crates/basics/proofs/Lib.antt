@@ -5,3 +5,4 @@ pub mod Kept
 pub mod KeptCounts
 pub mod ListMore
 pub mod SumLaws
+pub mod Fills

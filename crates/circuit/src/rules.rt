@@ -94,7 +94,7 @@ pub fn check_circuit(lines: u32, gates: &[u32]) -> Checked
 }
 
 // The place of the first vector of 2 ^ n or more, and 0 where none is.
-fn first_bad_vector(lines: u32, vectors: &[u32]) -> usize
+pub fn first_bad_vector(lines: u32, vectors: &[u32]) -> usize
     requires { ⌜ lines ≤ 32 ⌝ }
     ensures { λ r. ⌜ r ≡ firstBadVector lines (now (vectors .entry)) ⌝ }
 {

@@ -11,3 +11,4 @@ pub mod OrLaws
 pub mod LoneLaws
 pub mod LowestLaws
 pub mod AndLaws
+pub mod SplitLaws

@@ -1,0 +1,201 @@
+-- Jobs and their images. A job that is written is read again as it was, an image that is read is written again as it was, and two jobs have two images.
+use Prim.Native.Nat.{ℕ, _+_, _*_, _≤_}
+use mathlib.Core.Path.{_≡_, refl, sym, ap, ap₂, _∙_}
+use mathlib.Core.List.{List, [], _++_, append-assoc, append-nil}
+use native.Mathlib.Omega.{arith}
+use lib.ListN.{length, drop, length-append}
+use lib.Seq.{drop-length}
+use Rattle.basics.specs.Lists.{each, All}
+use Rattle.refusals.specs.Tables.{firstOf}
+use Rattle.refusals.specs.Checks.{fine}
+use Rattle.circuit.specs.Rules.{firstBadGate, firstBadVector}
+use Rattle.job.specs.Bytes.{bytesOf, wordsAt}
+use Rattle.job.specs.Image.{header, fieldBytes, gateCount, image, linesIn, classesIn, gatesIn, vectorsIn, gateWords, vectorWords}
+use Rattle.job.specs.Rules.{readRows, writeRows}
+use Rattle.job.proofs.ByteLaws.{length-words}
+use Rattle.job.proofs.ImageLaws.{length-header, length-words-bytes, length-image}
+use Rattle.job.proofs.NumberLaws.{Bytes, Placed, Stands, fields-there, words-there, words-on, fields-on}
+use Rattle.job.proofs.FitLaws.{gates-fit, gates-whole, vectors-fit}
+use Rattle.job.proofs.RuleLaws.{HeaderOk, ReadOk, JobOk, read-ok, ok-read, write-ok}
+
+-- ---- what an image holds
+
+-- some bytes hold a job
+pub record Holds (bytes : List ℕ) (n k : ℕ) (words xs : List ℕ) : Type 0 where
+  pub lines : linesIn bytes ≡ n
+  pub classes : classesIn bytes ≡ k
+  pub gates : gatesIn bytes ≡ gateCount words
+  pub vectors : vectorsIn bytes ≡ length xs
+  pub gate-words : gateWords bytes ≡ words
+  pub vector-words : vectorWords bytes ≡ xs
+
+module _ (n k : ℕ) (words xs : List ℕ) (ok : JobOk n k words xs) where
+  placed : Placed 0 (header n k (gateCount words) (length xs))
+  unfolding header
+  placed = (
+    refl,
+    (
+      omega arith,
+      (
+        refl,
+        (
+          omega arith,
+          (
+            refl,
+            (
+              omega arith,
+              (
+                refl,
+                (
+                  omega arith,
+                  (refl, (omega arith, (refl, (omega arith, (refl, (omega arith, (refl, (omega arith, (refl, (omega arith, tt)))))))))),
+                ),
+              ),
+            ),
+          ),
+        ),
+      ),
+    ),
+  )
+
+  -- every field of the header stands at its place
+  pub header-stands : All (Stands (image n k words xs)) (header n k (gateCount words) (length xs))
+  unfolding image
+  header-stands = fields-there (header n k (gateCount words) (length xs)) [] (each (bytesOf 4) words ++ each (bytesOf 4) xs) 0 refl placed
+
+  image-gates : gatesIn (image n k words xs) ≡ gateCount words
+  unfolding gatesIn header
+  image-gates = header-stands .1 .1 .1 .1 .0
+
+  image-vectors : vectorsIn (image n k words xs) ≡ length xs
+  unfolding vectorsIn header
+  image-vectors = header-stands .1 .1 .1 .1 .1 .0
+
+  image-gate-words : gateWords (image n k words xs) ≡ words
+  unfolding gateWords image
+  image-gate-words =
+      let e : 3 * gatesIn (image n k words xs) ≡ length words = omega (arith, image-gates, gates-whole n words (ok .gates-good)) in
+      ap (λ c. wordsAt c (image n k words xs) 28) e
+      ∙ words-there (each fieldBytes (header n k (gateCount words) (length xs))) words (each (bytesOf 4) xs) 28 (length-header n k (gateCount words) (length xs))
+      (gates-fit n words (ok .gates-good) (ok .lines-fit))
+
+  image-vector-words : vectorWords (image n k words xs) ≡ xs
+  unfolding vectorWords image
+  image-vector-words =
+      let front : List ℕ = each fieldBytes (header n k (gateCount words) (length xs)) in
+      let gs : List ℕ = each (bytesOf 4) words in
+      let vs : List ℕ = each (bytesOf 4) xs in
+      let at : length (front ++ gs) ≡ 28 + 12 * gatesIn (image n k words xs) =
+      omega (arith, length-append front gs, length-header n k (gateCount words) (length xs), length-words-bytes words, image-gates, gates-whole n words (ok .gates-good)) in
+      let e : image n k words xs ≡ (front ++ gs) ++ (vs ++ []) = sym (append-assoc front gs (vs ++ []) ∙ ap (λ r. front ++ (gs ++ r)) (append-nil vs)) in
+      ap₂ (λ c b. wordsAt c b (28 + 12 * gatesIn (image n k words xs))) image-vectors e
+      ∙ words-there (front ++ gs) xs [] (28 + 12 * gatesIn (image n k words xs)) at (vectors-fit n xs (ok .lines-fit) (ok .vectors-good))
+
+  holds : Holds (image n k words xs) n k words xs
+  unfolding linesIn classesIn header
+  holds = record {
+    lines = header-stands .1 .0;
+    classes = header-stands .1 .1 .0;
+    gates = image-gates;
+    vectors = image-vectors;
+    gate-words = image-gate-words;
+    vector-words = image-vector-words;
+  }
+
+  image-head : HeaderOk (image n k words xs)
+  unfolding header
+  image-head =
+      let h = holds in
+      let l = length-image n k words xs in
+      let whole = gates-whole n words (ok .gates-good) in
+      let s = header-stands in
+      record {
+        long = omega arith;
+        form = s .0;
+        some-lines = omega arith;
+        lines-fit = omega arith;
+        some-classes = omega arith;
+        classes-fit = omega arith;
+        nothing = s .1 .1 .1 .0;
+        gates-fit = omega arith;
+        vectors-fit = omega arith;
+        gates-at = s .1 .1 .1 .1 .1 .1 .0;
+        vectors-at = s .1 .1 .1 .1 .1 .1 .1 .0 ∙ omega arith;
+        end-at = s .1 .1 .1 .1 .1 .1 .1 .1 .0 ∙ omega arith;
+        whole = omega arith;
+      }
+
+  -- it breaks no rule of reading where there is room
+  image-ok : (gateRoom vectorRoom : ℕ) → 3 * gateCount words ≤ gateRoom → length xs ≤ vectorRoom → ReadOk (image n k words xs) gateRoom vectorRoom
+  image-ok gateRoom vectorRoom g v =
+      let h = holds in
+      record {
+        head = image-head;
+        gates-good = ap₂ firstBadGate (h .lines) (h .gate-words) ∙ ok .gates-good;
+        vectors-good = ap₂ firstBadVector (h .lines) (h .vector-words) ∙ ok .vectors-good;
+        gates-room = omega arith;
+        vectors-room = omega arith;
+      }
+
+-- ---- the image of what some bytes hold, from the back to the front
+
+gate-count : (bytes : List ℕ) → gateCount (gateWords bytes) ≡ gatesIn bytes
+unfolding gateCount gateWords
+gate-count bytes = let l = length-words (3 * gatesIn bytes) bytes 28 in omega arith
+
+vector-count : (bytes : List ℕ) → length (vectorWords bytes) ≡ vectorsIn bytes
+unfolding vectorWords
+vector-count bytes = length-words (vectorsIn bytes) bytes (28 + 12 * gatesIn bytes)
+
+module _ (bytes : List ℕ) (h : HeaderOk bytes) (w : Bytes bytes) where
+  vectors-back : each (bytesOf 4) (vectorWords bytes) ≡ drop (28 + 12 * gatesIn bytes) bytes
+  unfolding vectorWords
+  vectors-back =
+      let vs : List ℕ = each (bytesOf 4) (vectorWords bytes) in
+      sym (ap (λ r. vs ++ r) (drop-length bytes) ∙ append-nil vs)
+      ∙ words-on (vectorsIn bytes) bytes (28 + 12 * gatesIn bytes) (length bytes) w (omega arith) (omega arith)
+
+  content-back : each (bytesOf 4) (gateWords bytes) ++ each (bytesOf 4) (vectorWords bytes) ≡ drop 28 bytes
+  unfolding gateWords
+  content-back =
+      ap (λ r. each (bytesOf 4) (gateWords bytes) ++ r) vectors-back
+      ∙ words-on (3 * gatesIn bytes) bytes 28 (28 + 12 * gatesIn bytes) w (omega arith) (omega arith)
+
+  header-back : each fieldBytes (header (linesIn bytes) (classesIn bytes) (gatesIn bytes) (vectorsIn bytes)) ++ drop 28 bytes ≡ bytes
+  unfolding header linesIn classesIn gatesIn vectorsIn
+  header-back =
+      fields-on bytes (header (linesIn bytes) (classesIn bytes) (gatesIn bytes) (vectorsIn bytes)) 0 28 w
+      (h .form, (refl, (refl, (h .nothing, (refl, (refl, (h .gates-at, (h .vectors-at, (h .end-at, refl)))))))))
+      (h .long)
+
+-- ---- the theorems
+
+-- A job that breaks no rule stands in its image as it is, and the image breaks no rule where there is room.
+pub read-written : (n k : ℕ) (words xs : List ℕ) (room : ℕ) → fine ≡ firstOf (writeRows n k words xs room) fine → Holds (image n k words xs) n k words xs
+read-written n k words xs room e = holds n k words xs (write-ok n k words xs room e .job)
+
+pub read-written-fine : (n k : ℕ) (words xs : List ℕ) (room gateRoom vectorRoom : ℕ) → fine ≡ firstOf (writeRows n k words xs room) fine
+    → 3 * gateCount words ≤ gateRoom → length xs ≤ vectorRoom → fine ≡ firstOf (readRows (image n k words xs) gateRoom vectorRoom) fine
+read-written-fine n k words xs room gateRoom vectorRoom e g v =
+    ok-read (image n k words xs) gateRoom vectorRoom (image-ok n k words xs (write-ok n k words xs room e .job) gateRoom vectorRoom g v)
+
+-- Bytes that break no rule are the image of what they hold.
+pub written-read : (bytes : List ℕ) (gateRoom vectorRoom : ℕ) → Bytes bytes → fine ≡ firstOf (readRows bytes gateRoom vectorRoom) fine
+    → image (linesIn bytes) (classesIn bytes) (gateWords bytes) (vectorWords bytes) ≡ bytes
+unfolding image
+written-read bytes gateRoom vectorRoom w e =
+    let h = read-ok bytes gateRoom vectorRoom e .head in
+    let d = gate-count bytes in
+    let m = vector-count bytes in
+    rw (d, m) (ap (λ r. each fieldBytes (header (linesIn bytes) (classesIn bytes) (gatesIn bytes) (vectorsIn bytes)) ++ r) (content-back bytes h w) ∙ header-back bytes h w)
+
+-- Two jobs that break no rule and have the same image are the same job.
+pub one-image : (n k : ℕ) (words xs : List ℕ) (room : ℕ) (n' k' : ℕ) (words' xs' : List ℕ) (room' : ℕ)
+    → fine ≡ firstOf (writeRows n k words xs room) fine → fine ≡ firstOf (writeRows n' k' words' xs' room') fine → image n k words xs ≡ image n' k' words' xs'
+    → (n ≡ n') × ((k ≡ k') × ((words ≡ words') × (xs ≡ xs')))
+one-image n k words xs room n' k' words' xs' room' e e' same =
+    let a = read-written n k words xs room e in
+    let b = read-written n' k' words' xs' room' e' in (
+      sym (a .lines) ∙ ap linesIn same ∙ b .lines,
+      (sym (a .classes) ∙ ap classesIn same ∙ b .classes, (sym (a .gate-words) ∙ ap gateWords same ∙ b .gate-words, sym (a .vector-words) ∙ ap vectorWords same ∙ b .vector-words)),
+    )

@@ -1,0 +1,52 @@
+-- `job::rules::check_content` meets its contract: a table of one row for the gates, and after it one for the vectors. Assumes nothing.
+use Rattle.circuit.proofs.RuleLaws.{first-bad-le, first-vector-le}
+use native.Mathlib.Omega.{arith}
+use mathlib.Core.Path.{ap, _∙_}
+use Rattle.refusals.specs.Checks.{found}
+use Rattle.job.proofs.RuleLaws.{content-rows}
+use borrow.Author.Needs.{needs}
+use Rattle.job.proofs.rules.check_content.Statement.{statement}
+use Rattle.job.proofs.rules.check_content.Tie as tie
+
+first-bad-gate-requires : tie.Need-first-bad-gate-requires
+first-bad-gate-requires c κs = search needs
+
+first-bad-vector-requires : tie.Need-first-bad-vector-requires
+first-bad-vector-requires c κs = search needs
+
+cast-unless : tie.Need-cast-unless
+cast-unless c = let a = c .before .before .before .before .args in omega (arith, c .before .first-bad-gate .ensures, first-bad-le (a .lines) (a .gates .now))
+
+unless-requires : tie.Need-unless-requires
+unless-requires c κs = search needs
+
+cast-unless-2 : tie.Need-cast-unless-2
+cast-unless-2 c = let a = c .before .before .before .before .before .args in omega (arith, c .before .first-bad-vector .ensures, first-vector-le (a .lines) (a .vectors .now))
+
+unless-requires-2 : tie.Need-unless-requires-2
+unless-requires-2 c κs = search needs
+
+sooner-requires : tie.Need-sooner-requires
+sooner-requires c κs = search needs
+
+returns : tie.Need-returns
+returns c =
+    let gate = c .before .before .before .before .first-bad-gate in
+    let vector = c .before .before .before .first-bad-vector in
+    let rule-7 = c .before .before .unless in
+    let rule-8 = c .before .unless2 in
+    ap found (c .sooner .ensures)
+    ∙ content-rows _ _ _ (gate .result) (vector .result) (rule-7 .result) (rule-8 .result) (gate .ensures) (vector .ensures) (rule-7 .ensures) (rule-8 .ensures)
+
+pub check-content-spec : {M : Type 1} → statement M
+check-content-spec =
+    tie.close
+    (tie.spec
+    first-bad-gate-requires
+    first-bad-vector-requires
+    cast-unless
+    unless-requires
+    cast-unless-2
+    unless-requires-2
+    sooner-requires
+    returns)

@@ -1,0 +1,51 @@
+-- `job::rules::check_read` meets its contract: the header, what it holds, and the room are the parts of the table, in their order. Assumes nothing.
+use mathlib.Core.Path.{ap, sym, _∙_}
+use Rattle.refusals.specs.Checks.{found}
+use Rattle.job.proofs.RuleLaws.{header-ok, read-header, read-rest}
+use borrow.Author.Needs.{needs}
+use Rattle.job.proofs.rules.check_read.Statement.{statement}
+use Rattle.job.proofs.rules.check_read.Tie as tie
+
+check-header-requires : tie.Need-check-header-requires
+check-header-requires c κs = search needs
+
+enum-known-refusal : tie.Need-enum-known-refusal
+enum-known-refusal c = search needs
+
+returns : tie.Need-returns
+returns c = read-header _ _ _ _ _ (ap found (sym (c .before .refusal .given .1)) ∙ c .before .before .before .check-header .ensures)
+
+enum-told : tie.Need-enum-told
+enum-told c = search needs
+
+check-words-requires : tie.Need-check-words-requires
+check-words-requires c κs = ap found (sym (c .enum-told .given .1)) ∙ c .before .before .check-header .ensures
+
+bad-room-requires : tie.Need-bad-room-requires
+bad-room-requires c κs = header-ok _ (ap found (sym (c .before .enum-told .given .1)) ∙ c .before .before .before .check-header .ensures) .long
+
+unless-requires : tie.Need-unless-requires
+unless-requires c κs = search needs
+
+sooner-requires : tie.Need-sooner-requires
+sooner-requires c κs = search needs
+
+returns-2 : tie.Need-returns-2
+returns-2 c =
+    ap found (c .sooner .ensures)
+    ∙ read-rest _ _ _ (c .before .before .bad-room .result) (c .before .before .before .check-words .result) (c .before .unless .result)
+    (ap found (sym (c .before .before .before .before .enum-told .given .1)) ∙ c .before .before .before .before .before .before .check-header .ensures) (c .before .before .before .check-words .ensures) (c .before .before .bad-room .ensures) (c .before .unless .ensures)
+
+pub check-read-spec : {M : Type 1} → statement M
+check-read-spec =
+    tie.close
+    (tie.spec
+    check-header-requires
+    enum-known-refusal
+    returns
+    enum-told
+    check-words-requires
+    bad-room-requires
+    unless-requires
+    sooner-requires
+    returns-2)

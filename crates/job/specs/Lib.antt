@@ -1,0 +1,5 @@
+pub mod Bytes
+pub mod Image
+pub mod Rules
+pub mod Parts
+pub mod Answers

@@ -1,0 +1,78 @@
+// The job image: jobs read out of bytes and written into bytes.
+ghost use mathlib.Core.Path.{_≡_};
+ghost use mathlib.Core.List.{[], _∷_, _++_};
+ghost use Prim.Native.Nat.{_*_};
+ghost use lib.ListN.{length, drop};
+ghost use Rattle.refusals.specs.Tables.{firstOf, after};
+ghost use Rattle.refusals.specs.Tables.Told.{answered};
+ghost use Rattle.job.specs.Image.{image, linesIn, classesIn, gatesIn, vectorsIn, gateWords, vectorWords};
+ghost use Rattle.job.specs.Rules.{readRows, writeRows};
+ghost use Rattle.job.specs.Answers.{toldRead, toldWritten};
+use refusals::Checked;
+use refusals::Refusal;
+
+mod bytes;
+mod reading;
+mod rules;
+mod writing;
+
+// A job that was read: its lines, the classes wanted, its numbers of gates and vectors.
+pub enum Read {
+    Job {
+        lines: u32,
+        classes: u32,
+        gates: u32,
+        vectors: u32,
+    },
+    Refused(Refusal),
+}
+
+// The number of bytes written.
+pub enum Written {
+    Bytes(u32),
+    Refused(Refusal),
+}
+
+// A job out of bytes, into the fronts of two lists. A refused call changes nothing.
+pub fn read_job(bytes: &[u8], gates: &mut [u32], vectors: &mut [u32]) -> Read
+    ensures { λ r. ⌜ (toldRead r ≡ firstOf
+        (readRows (now (bytes .entry)) (length (now (gates .entry))) (length (now (vectors .entry))))
+        (answered (linesIn (now (bytes .entry)) ∷ classesIn (now (bytes .entry))
+        ∷ gatesIn (now (bytes .entry)) ∷ vectorsIn (now (bytes .entry)) ∷ [])))
+        × ((now (gates .exit) ≡ after
+        (readRows (now (bytes .entry)) (length (now (gates .entry))) (length (now (vectors .entry))))
+        (gateWords (now (bytes .entry)) ++ drop (3 * gatesIn (now (bytes .entry))) (now (gates .entry)))
+        (now (gates .entry)))
+        × (now (vectors .exit) ≡ after
+        (readRows (now (bytes .entry)) (length (now (gates .entry))) (length (now (vectors .entry))))
+        (vectorWords (now (bytes .entry)) ++ drop (vectorsIn (now (bytes .entry))) (now (vectors .entry)))
+        (now (vectors .entry)))) ⌝ }
+{
+    match rules::check_read(bytes, gates.len(), vectors.len()) {
+        Checked::Wrong(refusal) => Read::Refused(refusal),
+        Checked::Fine => reading::read_image(bytes, gates, vectors),
+    }
+}
+
+// A job into the front of some bytes. A refused call changes nothing.
+pub fn write_job(
+    lines: u32,
+    classes: u32,
+    gates: &[u32],
+    vectors: &[u32],
+    out: &mut [u8],
+) -> Written
+    ensures { λ r. ⌜ (toldWritten r ≡ firstOf
+        (writeRows lines classes (now (gates .entry)) (now (vectors .entry)) (length (now (out .entry))))
+        (answered (length (image lines classes (now (gates .entry)) (now (vectors .entry))) ∷ [])))
+        × (now (out .exit) ≡ after
+        (writeRows lines classes (now (gates .entry)) (now (vectors .entry)) (length (now (out .entry))))
+        (image lines classes (now (gates .entry)) (now (vectors .entry))
+        ++ drop (length (image lines classes (now (gates .entry)) (now (vectors .entry)))) (now (out .entry)))
+        (now (out .entry))) ⌝ }
+{
+    match rules::check_write(lines, classes, gates, vectors, out.len()) {
+        Checked::Wrong(refusal) => Written::Refused(refusal),
+        Checked::Fine => Written::Bytes(writing::write_image(lines, classes, gates, vectors, out)),
+    }
+}

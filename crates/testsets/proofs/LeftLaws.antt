@@ -1,0 +1,174 @@
+-- Laws of the words of what is left: the score of a vector level by level, and what a vector leaves.
+use Prim.Native.Nat.{ℕ, zero, suc, _+_, _-_, _^_, _≤_, _<_}
+use mathlib.Core.Path.{_≡_, sym, ap, ap₂, _∙_}
+use mathlib.Core.Bool.{Bool, true, false, not, _&&_, _||_}
+use mathlib.Core.List.{List, [], _∷_}
+use native.Mathlib.Omega.{arith}
+use lib.Bits.{bitAnd, bitOr, bitXor}
+use lib.ListN.{length, getD}
+use lib.Dec.{eqb}
+use borrow.Author.Tests.{eq-eqb, eqb-true}
+use Rattle.basics.specs.Lists.{some}
+use Rattle.basics.specs.Sums.{sumFrom}
+use Rattle.basics.proofs.Tests.{and-both}
+use Rattle.basics.proofs.Lists.{keep-keep}
+use Rattle.basics.proofs.Kept.{keep-agree, keep-every}
+use Rattle.basics.proofs.SumLaws.{sum-cong, sum-more, sum-end}
+use Rattle.words.specs.Word.{bit, allOnes, linesOn}
+use Rattle.words.specs.Inverse.{inverse}
+use Rattle.words.specs.WordOf.{lacking}
+use Rattle.words.proofs.Bits.{by-bit}
+use Rattle.words.proofs.Inverse.{not-off, not-on, inverse-code}
+use Rattle.words.proofs.LineLists.{all-lines}
+use Rattle.words.proofs.OrLaws.{on-and}
+use Rattle.words.proofs.SplitLaws.{lines-wide, on-lacking, split-lt, split-count}
+use Rattle.circuit.specs.Runs.{forward}
+use Rattle.circuit.specs.Sound.{AllOk}
+use Rattle.circuit.specs.declared.Gate.{Gate}
+use Rattle.circuit.proofs.RunLaws.{forward-lt}
+use Rattle.simulator.specs.Sites.{sites}
+use Rattle.simulator.specs.Faults.{caught}
+use Rattle.simulator.proofs.FaultLaws.{stuck-caught}
+use Rattle.judge.specs.Classes.{faultOf, stuckFaults}
+use Rattle.judge.specs.Coverages.{levelMarked}
+use Rattle.judge.specs.Judging.{caughtBySome, left}
+use Rattle.judge.proofs.ClassParts.{all-stuck}
+use Rattle.judge.proofs.Counting.{count-stuck}
+use Rattle.testsets.specs.Sets.{score}
+use Rattle.testsets.specs.Left.{leftOf, AllSites, OnSites, Left}
+use Rattle.testsets.proofs.SiteLaws.{site-below}
+use Rattle.testsets.proofs.SetLaws.{stuck-of}
+use Rattle.testsets.proofs.Changes.{Changed}
+
+-- ---- at the start
+
+module _ (n : ℕ) (gs : List Gate) (ws : List ℕ) (all : AllSites n gs ws) where
+  pub sites-left : Left n gs ws ws
+  sites-left =
+      let on : OnSites n gs ws = record { wide = all .wide; inside = λ i j h o. ap (λ w. bit w j) (sym (all .every i h)) ∙ o } in
+      record { at-0 = on; at-1 = on }
+
+  site-marked : (i j v : ℕ) → i ≤ length gs → bit (sites n gs i) j ≡ 1 → v ≤ 1 → levelMarked ws ws (faultOf 1 i j v) ≡ true
+  unfolding faultOf
+  site-marked i j zero hi o hv = eq-eqb (bit (getD ws i 0) j) 1 (ap (λ w. bit w j) (all .every i hi) ∙ o)
+  site-marked i j (suc zero) hi o hv = eq-eqb (bit (getD ws i 0) j) 1 (ap (λ w. bit w j) (all .every i hi) ∙ o)
+  site-marked i j (suc (suc v)) hi o hv = absurd (omega arith)
+
+  pub sites-left-all : leftOf n gs ws ws ≡ stuckFaults n gs
+  unfolding leftOf
+  sites-left-all = keep-every (levelMarked ws ws) (stuckFaults n gs) (all-stuck _ n gs site-marked)
+
+-- ---- the score of a vector
+
+-- the lines at level i of which it catches a fault: stuck at 0 where they are 1, stuck at 1 where they are 0
+abbrev pub newlyCaught : ℕ → List Gate → List ℕ → List ℕ → ℕ → ℕ → ℕ
+newlyCaught n gs at0 at1 x i = bitOr (bitAnd (forward gs i x) (getD at0 i 0)) (bitAnd (inverse n (forward gs i x)) (getD at1 i 0))
+
+-- how many there are from level i on
+abbrev pub caughtFrom : ℕ → List Gate → List ℕ → List ℕ → ℕ → ℕ → ℕ
+caughtFrom n gs at0 at1 x i = sumFrom (λ k. length (linesOn n (newlyCaught n gs at0 at1 x k))) i (suc (length gs) - i)
+
+module _ (n : ℕ) (gs : List Gate) (ok : AllOk n gs) (at0 at1 : List ℕ) where
+  caught-zero : (x i j : ℕ) → i ≤ length gs → j < n → caught gs (faultOf 1 i j 0) x ≡ eqb (bit (forward gs i x) j) 1
+  unfolding faultOf
+  caught-zero x i j h l = stuck-caught n gs ok (faultOf 1 i j 0) (stuck-of n gs i j 0 h l (omega arith)) x ∙ not-off (forward gs i x) j
+
+  caught-one : (x i j : ℕ) → i ≤ length gs → j < n → caught gs (faultOf 1 i j 1) x ≡ eqb (bit (forward gs i x) j) 0
+  unfolding faultOf
+  caught-one x i j h l = stuck-caught n gs ok (faultOf 1 i j 1) (stuck-of n gs i j 1 h l (omega arith)) x ∙ not-on (forward gs i x) j
+
+  score-sum : Left n gs at0 at1 → (x : ℕ)
+      → score gs (leftOf n gs at0 at1) x ≡ sumFrom (λ k. length (linesOn n (newlyCaught n gs at0 at1 x k))) 0 (suc (length gs))
+  unfolding score leftOf faultOf
+  score-sum on x =
+      ap length (keep-keep (levelMarked at0 at1) (λ f. caught gs f x) (stuckFaults n gs))
+      ∙ count-stuck (λ f. levelMarked at0 at1 f && caught gs f x) n gs
+      ∙ sum-cong _ _ 0 (suc (length gs)) (λ i l h.
+      let here : i ≤ length gs = omega arith in
+      let s : ℕ = forward gs i x in
+      let a : ℕ = getD at0 i 0 in
+      let b : ℕ = getD at1 i 0 in
+      ap₂ (λ (ls ms : List ℕ). length ls + length ms)
+      (keep-agree _ (λ j. eqb (bit a j) 1 && eqb (bit s j) 1) (linesOn n (sites n gs i))
+      (all-lines _ n (sites n gs i) (λ j m o. ap (λ t. eqb (bit a j) 1 && t) (caught-zero x i j here m))))
+      (keep-agree _ (λ j. eqb (bit b j) 1 && eqb (bit s j) 0) (linesOn n (sites n gs i))
+      (all-lines _ n (sites n gs i) (λ j m o. ap (λ t. eqb (bit b j) 1 && t) (caught-one x i j here m))))
+      ∙ split-count n (sites n gs i) s a b (λ j. on .at-0 .inside i j here) (λ j. on .at-1 .inside i j here))
+
+  pub score-all : Left n gs at0 at1 → (x : ℕ) → score gs (leftOf n gs at0 at1) x ≡ caughtFrom n gs at0 at1 x 0
+  score-all on x =
+      let all : suc (length gs) ≡ suc (length gs) - 0 = omega arith in
+      score-sum on x ∙ ap (sumFrom (λ k. length (linesOn n (newlyCaught n gs at0 at1 x k))) 0) all
+
+  -- one level, as code counts it
+  pub score-more : (x i s ones : ℕ) → n ≤ 32 → x < 2 ^ n → i ≤ length gs → ones ≡ allOnes n → s ≡ forward gs i x
+      → caughtFrom n gs at0 at1 x i
+      ≡ length (linesOn 32 (bitOr (bitAnd s (getD at0 i 0)) (bitAnd (bitXor s ones) (getD at1 i 0)))) + caughtFrom n gs at0 at1 x (i + 1)
+  score-more x i s ones wide fits h e here =
+      let t : ℕ = forward gs i x in
+      let word : bitOr (bitAnd s (getD at0 i 0)) (bitAnd (bitXor s ones) (getD at1 i 0)) ≡ newlyCaught n gs at0 at1 x i =
+      rw (here, e) (ap (λ w. bitOr (bitAnd t (getD at0 i 0)) (bitAnd w (getD at1 i 0))) (inverse-code n t)) in
+      sum-more (λ k. length (linesOn n (newlyCaught n gs at0 at1 x k))) i (suc (length gs)) (omega arith)
+      ∙ ap (λ m. m + caughtFrom n gs at0 at1 x (i + 1))
+      (sym (ap (λ w. length (linesOn 32 w)) word
+      ∙ lines-wide n 32 (newlyCaught n gs at0 at1 x i) wide (split-lt n t (getD at0 i 0) (getD at1 i 0) (forward-lt n gs ok i x fits))))
+
+  -- and the last level
+  pub score-last : (x i e s ones : ℕ) → n ≤ 32 → x < 2 ^ n → i ≡ length gs → e ≡ i → ones ≡ allOnes n → s ≡ forward gs i x
+      → caughtFrom n gs at0 at1 x i ≡ length (linesOn 32 (bitOr (bitAnd s (getD at0 e 0)) (bitAnd (bitXor s ones) (getD at1 e 0))))
+  score-last x i e s ones wide fits last same o here =
+      rw same
+      (score-more x i s ones wide fits (omega arith) o here
+      ∙ omega (arith, sum-end (λ k. length (linesOn n (newlyCaught n gs at0 at1 x k))) (i + 1) (suc (length gs)) (omega arith)))
+
+  -- ---- what a vector leaves
+
+  not-caught : (b : Bool) (s j : ℕ) → b ≡ eqb (bit s j) 1 → not (b || false) ≡ eqb (bit s j) 0
+  not-caught b s j e = ap (λ c. not (c || false)) e ∙ by-bit s j (λ q. rw q) (λ q. rw q)
+
+  not-caught-one : (b : Bool) (s j : ℕ) → b ≡ eqb (bit s j) 0 → not (b || false) ≡ eqb (bit s j) 1
+  not-caught-one b s j e = ap (λ c. not (c || false)) e ∙ by-bit s j (λ q. rw q) (λ q. rw q)
+
+  module _ (x : ℕ) (now0 now1 : List ℕ)
+      (zeros : Changed (λ k w. lacking w (forward gs k x)) (suc (length gs)) at0 now0)
+      (ones : Changed (λ k w. bitAnd w (forward gs k x)) (suc (length gs)) at1 now1) where
+    still-marked : (i j v : ℕ) → i ≤ length gs → bit (sites n gs i) j ≡ 1 → v ≤ 1
+        → (levelMarked at0 at1 (faultOf 1 i j v) && not (caught gs (faultOf 1 i j v) x || false)) ≡ levelMarked now0 now1 (faultOf 1 i j v)
+    unfolding faultOf
+    still-marked i j zero hi o hv =
+        let s : ℕ = forward gs i x in
+        let a : ℕ = getD at0 i 0 in
+        ap (λ t. eqb (bit a j) 1 && t) (not-caught (caught gs (faultOf 1 i j 0) x) s j (caught-zero x i j hi (site-below n gs i j o)))
+        ∙ sym (ap (λ w. eqb (bit w j) 1) (zeros .done i (omega arith)) ∙ on-lacking a s j)
+    still-marked i j (suc zero) hi o hv =
+        let s : ℕ = forward gs i x in
+        let b : ℕ = getD at1 i 0 in
+        ap (λ t. eqb (bit b j) 1 && t) (not-caught-one (caught gs (faultOf 1 i j 1) x) s j (caught-one x i j hi (site-below n gs i j o)))
+        ∙ sym (ap (λ w. eqb (bit w j) 1) (ones .done i (omega arith)) ∙ on-and b s j)
+    still-marked i j (suc (suc v)) hi o hv = absurd (omega arith)
+
+    pub left-dropped : leftOf n gs now0 now1 ≡ left gs (x ∷ []) (leftOf n gs at0 at1)
+    unfolding leftOf left caughtBySome some
+    left-dropped = sym (
+        keep-keep (levelMarked at0 at1) (λ f. not (caught gs f x || false)) (stuckFaults n gs)
+        ∙ keep-agree _ _ (stuckFaults n gs) (all-stuck _ n gs still-marked))
+
+    pub still-left : Left n gs at0 at1 → length now0 ≡ length at0 → length now1 ≡ length at1 → Left n gs now0 now1
+    still-left on long0 long1 = record {
+      at-0 = record {
+        wide = omega (arith, on .at-0 .wide);
+        inside = λ i j h o.
+            let s : ℕ = forward gs i x in
+            let w : ℕ = getD at0 i 0 in
+            let seen = sym (on-lacking w s j) ∙ eq-eqb (bit (lacking w s) j) 1 (ap (λ t. bit t j) (sym (zeros .done i (omega arith))) ∙ o) in
+            on .at-0 .inside i j h (eqb-true (bit w j) 1 (and-both (eqb (bit w j) 1) (eqb (bit s j) 0) seen .0));
+      };
+      at-1 = record {
+        wide = omega (arith, on .at-1 .wide);
+        inside = λ i j h o.
+            let s : ℕ = forward gs i x in
+            let w : ℕ = getD at1 i 0 in
+            let seen = sym (on-and w s j) ∙ eq-eqb (bit (bitAnd w s) j) 1 (ap (λ t. bit t j) (sym (ones .done i (omega arith))) ∙ o) in
+            on .at-1 .inside i j h (eqb-true (bit w j) 1 (and-both (eqb (bit w j) 1) (eqb (bit s j) 1) seen .0));
+      };
+    }

@@ -1,0 +1,15 @@
+pub mod Log2Laws
+pub mod Levels
+pub mod Changes
+pub mod TotalLaws
+pub mod SiteLaws
+pub mod SetLaws
+pub mod LeftLaws
+pub mod Halving
+pub mod Picks
+pub mod PickTurns
+pub mod Multiple
+pub mod BackwardLaws
+pub mod RuleLaws
+pub mod AnswerLaws
+pub mod Demand3

@@ -1,0 +1,119 @@
+-- Picking the best vector again and again leaves no stuck-at fault after 2 + log2 (number of sites) picks.
+use Prim.Native.Nat.{ℕ, zero, suc, _+_, _*_, _^_, _≤_, _<_, zero-le, suc-le-suc}
+use mathlib.Core.Path.{_≡_, refl, ap}
+use mathlib.Core.List.{List, [], _∷_}
+use native.Mathlib.Nat.{mul-zero, le-of-eq, le-of-suc-le-suc, lt-of-le-of-lt}
+use native.Mathlib.Omega.{arith}
+use lib.ListN.{length}
+use Rattle.basics.specs.Lists.{All}
+use Rattle.circuit.specs.Sound.{AllOk}
+use Rattle.circuit.specs.declared.Gate.{Gate}
+use Rattle.simulator.specs.Entries.{StuckOk}
+use Rattle.simulator.specs.declared.Fault.{Fault}
+use Rattle.judge.specs.Classes.{stuckFaults}
+use Rattle.judge.specs.Judging.{left}
+use Rattle.testsets.specs.Log2.{log2}
+use Rattle.testsets.specs.Sets.{Complete, best, picks, siteCount, bound, compactSet}
+use Rattle.testsets.proofs.Log2Laws.{log2-lt, log2-le}
+use Rattle.testsets.proofs.TotalLaws.{pow-double}
+use Rattle.testsets.proofs.SetLaws.{stuck-ok, left-cons, left-nil, left-le, all-left}
+use Rattle.testsets.proofs.SiteLaws.{stuck-sites}
+use Rattle.testsets.proofs.Halving.{best-lt, half-left}
+
+-- a list that 2 ^ k times is shorter than 2 ^ k is empty
+nil-of-few : (k : ℕ) (fs : List Fault) → 2 ^ k * length fs < 2 ^ k → fs ≡ []
+nil-of-few k [] h = refl
+nil-of-few k (f ∷ fs) h = absurd (omega arith)
+
+-- k picks leave at most one of 2 ^ k faults
+pub picks-left : (n : ℕ) (gs : List Gate) → AllOk n gs → (k : ℕ) (fs : List Fault) → All (StuckOk n (length gs)) fs
+    → 2 ^ k * length (left gs (picks k n gs fs) fs) ≤ length fs
+unfolding picks
+picks-left n gs ok zero fs w = omega (arith, left-le gs [] fs)
+picks-left n gs ok (suc k) [] w = rw (left-nil gs []) (le-of-eq (mul-zero (2 ^ suc k)))
+picks-left n gs ok (suc k) (f ∷ fs) w =
+    let b : ℕ = best n gs (f ∷ fs) in
+    let rest : List Fault = left gs (b ∷ []) (f ∷ fs) in
+    let ih = picks-left n gs ok k rest (all-left (StuckOk n (length gs)) gs (b ∷ []) (f ∷ fs) w) in
+    let end : ℕ = length (left gs (picks k n gs rest) rest) in
+    rw (← left-cons gs b (picks k n gs rest) (f ∷ fs), pow-double k end) (omega (arith, half-left n gs ok (f ∷ fs) w))
+
+-- so fewer than 2 ^ k faults are all caught
+pub picks-complete : (n : ℕ) (gs : List Gate) → AllOk n gs → (k : ℕ) (fs : List Fault) → All (StuckOk n (length gs)) fs
+    → length fs < 2 ^ k → left gs (picks k n gs fs) fs ≡ []
+picks-complete n gs ok k fs w h = nil-of-few k (left gs (picks k n gs fs) fs) (lt-of-le-of-lt (picks-left n gs ok k fs w) h)
+
+-- fewer than 2 ^ m take no more than m vectors, however many picks are allowed
+pub picks-few : (n : ℕ) (gs : List Gate) → AllOk n gs → (k m : ℕ) (fs : List Fault) → All (StuckOk n (length gs)) fs
+    → length fs < 2 ^ m → length (picks k n gs fs) ≤ m
+unfolding picks
+picks-few n gs ok zero m fs w h = zero-le
+picks-few n gs ok (suc k) m [] w h = zero-le
+picks-few n gs ok (suc k) zero (f ∷ fs) w h = absurd (omega arith)
+picks-few n gs ok (suc k) (suc m) (f ∷ fs) w h =
+    let b : ℕ = best n gs (f ∷ fs) in
+    let rest : List Fault = left gs (b ∷ []) (f ∷ fs) in
+    suc-le-suc (picks-few n gs ok k m rest (all-left (StuckOk n (length gs)) gs (b ∷ []) (f ∷ fs) w) (omega (arith, half-left n gs ok (f ∷ fs) w)))
+
+-- then further picks add nothing
+pub picks-enough : (n : ℕ) (gs : List Gate) → AllOk n gs → (m k : ℕ) (fs : List Fault) → All (StuckOk n (length gs)) fs
+    → length fs < 2 ^ m → m ≤ k → picks k n gs fs ≡ picks m n gs fs
+unfolding picks
+picks-enough n gs ok zero zero fs w h l = refl
+picks-enough n gs ok zero (suc k) [] w h l = refl
+picks-enough n gs ok zero (suc k) (f ∷ fs) w h l = absurd (omega arith)
+picks-enough n gs ok (suc m) zero fs w h l = absurd (omega arith)
+picks-enough n gs ok (suc m) (suc k) [] w h l = refl
+picks-enough n gs ok (suc m) (suc k) (f ∷ fs) w h l =
+    let b : ℕ = best n gs (f ∷ fs) in
+    let rest : List Fault = left gs (b ∷ []) (f ∷ fs) in
+    ap (λ xs. b ∷ xs) (picks-enough n gs ok m k rest (all-left (StuckOk n (length gs)) gs (b ∷ []) (f ∷ fs) w) (omega (arith, half-left n gs ok (f ∷ fs) w)) (le-of-suc-le-suc l))
+
+-- every pick is an input
+pub picks-lt : (n : ℕ) (gs : List Gate) (k : ℕ) (fs : List Fault) → All (λ x. x < 2 ^ n) (picks k n gs fs)
+unfolding picks
+picks-lt n gs zero fs = tt
+picks-lt n gs (suc k) [] = tt
+picks-lt n gs (suc k) (f ∷ fs) = (best-lt n gs (f ∷ fs), picks-lt n gs k (left gs (best n gs (f ∷ fs) ∷ []) (f ∷ fs)))
+
+-- ---- the compact set
+
+-- the bound as a power: above twice the number of sites, and where there are sites at most four times as much
+bound-above : (n : ℕ) (gs : List Gate) → 2 * siteCount n gs < 2 ^ bound n gs
+unfolding bound
+bound-above n gs =
+    let S : ℕ = siteCount n gs in
+    let p : 2 ^ (2 + log2 S) ≡ 2 ^ suc (suc (log2 S)) = ap (λ e. 2 ^ e) (omega arith) in
+    omega (arith, log2-lt S)
+
+bound-below : (n : ℕ) (gs : List Gate) → 1 ≤ siteCount n gs → 2 ^ bound n gs ≤ 4 * siteCount n gs
+unfolding bound
+bound-below n gs h =
+    let S : ℕ = siteCount n gs in
+    let p : 2 ^ (2 + log2 S) ≡ 2 ^ suc (suc (log2 S)) = ap (λ e. 2 ^ e) (omega arith) in
+    omega (arith, log2-le S h)
+
+pub bound-power : (n : ℕ) (gs : List Gate) → 1 ≤ siteCount n gs → (2 * siteCount n gs < 2 ^ bound n gs) × (2 ^ bound n gs ≤ 4 * siteCount n gs)
+bound-power n gs h = (bound-above n gs, bound-below n gs h)
+
+-- there are fewer stuck-at faults than that power
+pub few-faults : (n : ℕ) (gs : List Gate) → length (stuckFaults n gs) < 2 ^ bound n gs
+few-faults n gs = rw (stuck-sites n gs) (bound-above n gs)
+
+-- so bound picks catch them all, and bound vectors are enough
+pub compact-complete : (n : ℕ) (gs : List Gate) → AllOk n gs → Complete n gs (compactSet n gs)
+unfolding compactSet
+compact-complete n gs ok = picks-complete n gs ok (bound n gs) (stuckFaults n gs) (stuck-ok n gs) (few-faults n gs)
+
+pub compact-few : (n : ℕ) (gs : List Gate) → AllOk n gs → length (compactSet n gs) ≤ bound n gs
+unfolding compactSet
+compact-few n gs ok = picks-few n gs ok (bound n gs) (bound n gs) (stuckFaults n gs) (stuck-ok n gs) (few-faults n gs)
+
+pub compact-lt : (n : ℕ) (gs : List Gate) → All (λ x. x < 2 ^ n) (compactSet n gs)
+unfolding compactSet
+compact-lt n gs = picks-lt n gs (bound n gs) (stuckFaults n gs)
+
+-- any more picks make the same set
+pub compact-any : (n : ℕ) (gs : List Gate) → AllOk n gs → (k : ℕ) → bound n gs ≤ k → picks k n gs (stuckFaults n gs) ≡ compactSet n gs
+unfolding compactSet
+compact-any n gs ok k l = picks-enough n gs ok (bound n gs) k (stuckFaults n gs) (stuck-ok n gs) (few-faults n gs) l

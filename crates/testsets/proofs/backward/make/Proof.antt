@@ -1,0 +1,155 @@
+-- `testsets::backward::make` meets its contract: after i turns the room begins with the first i + 2 vectors of the set, and the state is that of all zeros at level i.
+-- Assumes nothing.
+use Rattle.circuit.proofs.GateLaws.{gates-count}
+use Rattle.circuit.proofs.RuleLaws.{target-fits}
+use Rattle.circuit.proofs.RunLaws.{forward-none}
+use Rattle.testsets.proofs.Levels.{next-level}
+use Rattle.testsets.proofs.BackwardLaws.{backward-begin, backward-turn, backward-end, backward-length, backward-rest}
+use Prim.Native.Nat.{_+_, _-_, _≤_}
+use mathlib.Core.Path.{_≡_, refl, ap, sym, _∙_}
+use mathlib.Core.List.{_++_}
+use native.Mathlib.Omega.{arith}
+use lib.ListN.{length, take, drop, set, length-set}
+use borrow.Author.Needs.{needs}
+use Rattle.circuit.specs.Gates.{gatesOf}
+use Rattle.circuit.specs.Runs.{forward}
+use Rattle.testsets.specs.Sets.{backwardSet}
+use Rattle.testsets.proofs.backward.make.Statement.{statement}
+use Rattle.testsets.proofs.backward.make.Tie as tie
+
+abbrev Inv-loop : tie.InvT-loop
+Inv-loop lines gates room₀ ones end state₀ i₀ room state i =
+    (end ≡ length (gatesOf gates)) × ((i ≤ end) × ((state ≡ forward (gatesOf gates) i 0)
+    × ((length room ≡ length room₀) × (room ≡ take (i + 2) (backwardSet lines (gatesOf gates)) ++ drop (i + 2) room₀))))
+
+abbrev μ-loop : tie.MeasureT-loop
+μ-loop lines gates room₀ ones end state₀ i₀ room state i = end - i
+
+all-ones-requires : tie.Need-all-ones-requires Inv-loop μ-loop
+all-ones-requires c κs = omega arith
+
+slice-write-room : tie.Need-slice-write-room Inv-loop μ-loop
+slice-write-room c = omega arith
+
+slice-write-room-2 : tie.Need-slice-write-room-2 Inv-loop μ-loop
+slice-write-room-2 c = let a = c .before .before .before .args in omega (arith, length-set (a .room .now) 0 0)
+
+loop-holds : tie.Need-loop-holds Inv-loop μ-loop
+loop-holds c =
+    let a = c .before .before .before .args in
+    let wide : length (gatesOf (a .gates .now)) + 2 ≤ length (a .room .now) = search needs in
+    (sym (gates-count _), (search needs, (sym (forward-none _ 0), (refl, backward-begin (a .lines) (gatesOf (a .gates .now)) _ (c .all-ones .ensures) (a .room .now) wide))))
+
+level-requires : tie.Need-level-requires Inv-loop μ-loop
+level-requires c κs = search needs
+
+gate-after-requires : tie.Need-gate-after-requires Inv-loop μ-loop
+gate-after-requires c κs = omega arith
+
+gate-at-requires : tie.Need-gate-at-requires Inv-loop μ-loop
+gate-at-requires c κs = omega arith
+
+step-requires : tie.Need-step-requires Inv-loop μ-loop
+step-requires c κs =
+    let l = c .before .before .before .before in
+    let a = l .before .before .before .before .args in
+    rw (c .gate-at .ensures) (target-fits (a .lines) (a .gates .now) _ (search needs) (omega arith) (omega arith))
+
+add-i : tie.Need-add-i Inv-loop μ-loop
+add-i c = omega arith
+
+level-requires-2 : tie.Need-level-requires-2 Inv-loop μ-loop
+level-requires-2 c κs = search needs
+
+run-backward-requires : tie.Need-run-backward-requires Inv-loop μ-loop
+run-backward-requires c κs = (search needs, omega arith)
+
+add-room : tie.Need-add-room Inv-loop μ-loop
+add-room c = omega arith
+
+mul-room : tie.Need-mul-room Inv-loop μ-loop
+mul-room c = omega arith
+
+slice-write-room-3 : tie.Need-slice-write-room-3 Inv-loop μ-loop
+slice-write-room-3 c =
+    let a = c .before .before .before .before .before .before .before .before .before .before .before .args in
+    let ones = c .before .before .before .before .before .before .before .before .all-ones .result in
+    omega (arith, length-set (a .room .now) 0 0, length-set (set (a .room .now) 0 0) 1 ones)
+
+loop-less : tie.Need-loop-less Inv-loop μ-loop
+loop-less c = omega arith
+
+loop-again : tie.Need-loop-again Inv-loop μ-loop
+loop-again c =
+    let l = c .before .before .before .before .before .before .before in
+    let a = l .before .before .before .before .args in
+    let gs = gatesOf (a .gates .now) in
+    let ones = l .before .all-ones .result in
+    let start = set (set (a .room .now) 0 0) 1 ones in
+    let gate = c .before .before .before .gate-at .ensures in
+    let up = c .before .before .step .ensures ∙ next-level gs (l .loop .i) 0 (l .loop .state) _ _ (omega arith) (l .loop .inv .1 .1 .0) (omega arith) gate in
+    let wide : length gs + 2 ≤ length start = omega (arith, length-set (a .room .now) 0 0, length-set (set (a .room .now) 0 0) 1 ones) in
+    let turn = backward-turn (a .lines) gs ones (l .before .all-ones .ensures) start wide (l .loop .room) (l .loop .i) in (
+      l .loop .inv .0,
+      (
+        omega arith,
+        (
+          up,
+          (
+            length-set (l .loop .room) (l .loop .i + 1 + 1) (c .run-backward .result) ∙ l .loop .inv .1 .1 .1 .0,
+            turn _ _ _ (omega arith) up (c .before .level2 .ensures) (c .run-backward .ensures) (l .loop .inv .1 .1 .1 .1),
+          ),
+        ),
+      ),
+    )
+
+add-result : tie.Need-add-result Inv-loop μ-loop
+add-result c = omega arith
+
+cast-result : tie.Need-cast-result Inv-loop μ-loop
+cast-result c = omega arith
+
+same-length : tie.Need-same-length Inv-loop μ-loop
+same-length c =
+    let l = c .before in
+    let a = l .before .before .before .before .args in
+    l .loop .inv .1 .1 .1 .0 ∙ length-set (set (a .room .now) 0 0) 1 (l .before .all-ones .result) ∙ length-set (a .room .now) 0 0
+
+returns : tie.Need-returns Inv-loop μ-loop
+returns c =
+    let l = c .before in
+    let a = l .before .before .before .before .args in
+    let gs = gatesOf (a .gates .now) in
+    let ones = l .before .all-ones .result in
+    let start = set (set (a .room .now) 0 0) 1 ones in (
+      omega (arith, backward-length (a .lines) gs, gates-count (a .gates .now)),
+      backward-end (a .lines) gs start (l .loop .room) (l .loop .i) (omega arith) (l .loop .inv .1 .1 .1 .1)
+          ∙ ap (λ rest. backwardSet (a .lines) gs ++ rest) (backward-rest (a .lines) gs ones (a .room .now)),
+    )
+
+pub make-spec : {M : Type 1} → statement M
+make-spec =
+    tie.close
+    (tie.spec
+    Inv-loop
+    μ-loop
+    all-ones-requires
+    slice-write-room
+    slice-write-room-2
+    loop-holds
+    level-requires
+    gate-after-requires
+    gate-at-requires
+    step-requires
+    add-i
+    level-requires-2
+    run-backward-requires
+    add-room
+    mul-room
+    slice-write-room-3
+    loop-less
+    loop-again
+    add-result
+    cast-result
+    same-length
+    returns)

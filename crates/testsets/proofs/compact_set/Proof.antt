@@ -1,0 +1,58 @@
+-- `testsets::compact_set` meets its contract: the check is the whole table, and what passes it is a sound circuit of 12 lines at most and a room that suffices.
+-- Assumes nothing.
+use mathlib.Core.Path.{ap, sym, _∙_}
+use lib.ListN.{length}
+use Rattle.refusals.specs.Checks.{found}
+use Rattle.refusals.proofs.Tables.{refused-all, fine-all, after-refused, after-fine}
+use Rattle.testsets.specs.Rules.{compactRows}
+use Rattle.testsets.proofs.RuleLaws.{compact-ok}
+use borrow.Author.Needs.{needs}
+use Rattle.testsets.proofs.compact_set.Statement.{statement}
+use Rattle.testsets.proofs.compact_set.Tie as tie
+
+check-compact-requires : tie.Need-check-compact-requires
+check-compact-requires c κs = search needs
+
+enum-known-refusal : tie.Need-enum-known-refusal
+enum-known-refusal c = search needs
+
+enum-told : tie.Need-enum-told
+enum-told c = search needs
+
+make-requires : tie.Need-make-requires
+make-requires c κs =
+    let e = c .before in
+    let a = e .before .before .before .before .before .args in
+    let ok = compact-ok (a .lines) (a .gates .now) (length (a .room .now)) (ap found (sym (e .enum-told .given .1)) ∙ e .before .before .check-compact .ensures) in
+    (ok .circuit, (ok .lines-few, ok .room-fits))
+
+returns : tie.Need-returns
+returns c =
+    let a = c .before .before .before .before .before .before .args in
+    let rows = compactRows (a .lines) (a .gates .now) (length (a .room .now)) in
+    let told = ap found (sym (c .before .refusal .given .1)) ∙ c .before .before .before .check-compact .ensures in
+    (refused-all rows _ _ _ told, after-refused rows _ _ _ _ told)
+
+same-length : tie.Need-same-length
+same-length c = search needs
+
+returns-2 : tie.Need-returns-2
+returns-2 c =
+    let m = c .before .before in
+    let e = m .before .before in
+    let a = e .before .before .before .before .before .args in
+    let rows = compactRows (a .lines) (a .gates .now) (length (a .room .now)) in
+    let passed = ap found (sym (e .enum-told .given .1)) ∙ e .before .before .check-compact .ensures in
+    (rw (m .make .ensures .0) (fine-all rows _ passed), m .make .ensures .1 ∙ after-fine rows _ _ passed)
+
+pub compact-set-spec : {M : Type 1} → statement M
+compact-set-spec =
+    tie.close
+    (tie.spec
+    check-compact-requires
+    enum-known-refusal
+    enum-told
+    make-requires
+    returns
+    same-length
+    returns-2)

@@ -1,0 +1,31 @@
+-- The stuck-at faults that are still left, as words of lines: for each level the lines whose stuck-at-0 fault is left, and those whose stuck-at-1 fault is.
+use Prim.Native.Nat.{ℕ, _≤_, _<_}
+use mathlib.Core.Path.{_≡_}
+use mathlib.Core.List.{List}
+use lib.ListN.{length, getD}
+use Rattle.basics.specs.Lists.{keep}
+use Rattle.words.specs.Word.{bit}
+use Rattle.circuit.specs.declared.Gate.{Gate}
+use Rattle.simulator.specs.Sites.{sites}
+use Rattle.simulator.specs.declared.Fault.{Fault}
+use Rattle.judge.specs.Classes.{stuckFaults}
+use Rattle.judge.specs.Coverages.{levelMarked}
+
+-- the list of them
+unfoldable pub leftOf : ℕ → List Gate → List ℕ → List ℕ → List Fault
+leftOf n gs at0 at1 = keep (levelMarked at0 at1) (stuckFaults n gs)
+
+-- a word for each level, which has all its sites
+pub record AllSites (n : ℕ) (gs : List Gate) (ws : List ℕ) : Type 0 where
+  pub wide : length gs < length ws
+  pub every : (i : ℕ) → i ≤ length gs → getD ws i 0 ≡ sites n gs i
+
+-- a word for each level, which has no other lines than sites
+pub record OnSites (n : ℕ) (gs : List Gate) (ws : List ℕ) : Type 0 where
+  pub wide : length gs < length ws
+  pub inside : (i j : ℕ) → i ≤ length gs → bit (getD ws i 0) j ≡ 1 → bit (sites n gs i) j ≡ 1
+
+-- both kinds of words
+pub record Left (n : ℕ) (gs : List Gate) (at0 at1 : List ℕ) : Type 0 where
+  pub at-0 : OnSites n gs at0
+  pub at-1 : OnSites n gs at1

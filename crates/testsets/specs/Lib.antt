@@ -1,0 +1,5 @@
+pub mod Log2
+pub mod Sets
+pub mod Left
+pub mod Rules
+pub mod Answers
