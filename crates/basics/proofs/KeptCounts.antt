@@ -36,9 +36,11 @@ kept-one p a zero i e l m h = absurd (omega arith)
 kept-one p a (suc k) i e l m h = by-equal a i
     (λ q.
     let c : count (p a) ≡ 1 = ap count (ap p q ∙ e) in
-    let none : length (keep p (upFrom (suc a) k)) ≡ 0 = ap length (keep-none p (upFrom (suc a) k) (all-upFrom _ (suc a) k (λ j f g. h j (λ r. omega arith)))) in
+    let none : length (keep p (upFrom (suc a) k)) ≡ 0 = ap length
+    (keep-none p (upFrom (suc a) k) (all-upFrom _ (suc a) k (λ j f g. h j (λ r. omega arith)))) in
     omega (arith, kept-first p a k))
-    (λ d. let c : count (p a) ≡ 0 = ap count (h a (λ r. d (sym r))) in omega (arith, kept-first p a k, kept-one p (suc a) k i e (omega arith) (omega arith) h))
+    (λ d. let c : count (p a) ≡ 0 = ap count (h a (λ r. d (sym r))) in omega
+    (arith, kept-first p a k, kept-one p (suc a) k i e (omega arith) (omega arith) h))
 
 -- two tests that no entry passes both
 count-either : (b c : Bool) → b && c ≡ false → count b + count c ≡ count (b || c)
@@ -51,4 +53,11 @@ pub kept-either {ℓ} : {A : Type ℓ} (p q : A → Bool) (ys : List A) → All 
 unfolding keep
 kept-either p q [] w = refl
 kept-either p q (a ∷ ys) w =
-    omega (arith, length-keep p a ys, length-keep q a ys, length-keep (λ y. p y || q y) a ys, count-either (p a) (q a) (w .0), kept-either p q ys (w .1))
+    omega (
+      arith,
+      length-keep p a ys,
+      length-keep q a ys,
+      length-keep (λ y. p y || q y) a ys,
+      count-either (p a) (q a) (w .0),
+      kept-either p q ys (w .1),
+    )

@@ -2,17 +2,21 @@
 use mathlib.Core.Path.{_≡_, refl}
 use mathlib.Core.Bool.{true}
 use Rattle.basics.specs.Lists.{upFrom, keep, each, some}
+use Rattle.basics.specs.Sums.{sumFrom}
 use Rattle.words.specs.Word.{bit, flip, force, allOn, allOnes, linesOn}
+use Rattle.words.specs.Inverse.{inverse}
 use Rattle.circuit.specs.Gates.{gatesOf}
 use Rattle.circuit.specs.Controls.{lessControl, moreControl}
 use Rattle.circuit.specs.Runs.{fires, step, run, forward, backward}
 use Rattle.simulator.specs.Faults.{forceAt, stuckRun, without, changed, faulty, caught}
 use Rattle.simulator.specs.Sites.{sites}
 use Rattle.judge.specs.Classes.{faultOf, stuckFaults, classFaults}
-use Rattle.judge.specs.Judging.{caughtBySome, verdict}
+use Rattle.judge.specs.Judging.{caughtBySome, left, verdict}
+use Rattle.testsets.specs.Log2.{log2In, log2}
+use Rattle.testsets.specs.Sets.{score, bestOf, best, picks, siteCount, bound, compactSet, backwardInput, backwardSet}
 use Rattle.bench.specs.Sample.{sampleWords, sample}
 use Rattle.bench.specs.Table.{levels, catching, judged, table, holds}
 
 pub bench-table : holds table ≡ true
-unfolding upFrom keep each some bit flip force allOn allOnes linesOn gatesOf lessControl moreControl fires step run forward backward forceAt stuckRun without changed faulty caught sites faultOf stuckFaults classFaults caughtBySome verdict sampleWords sample levels catching judged table
+unfolding sampleWords sample levels catching judged table upFrom keep each some sumFrom bit flip force allOn allOnes linesOn inverse gatesOf lessControl moreControl fires step run forward backward forceAt stuckRun without changed faulty caught sites faultOf stuckFaults classFaults caughtBySome left verdict log2In log2 score bestOf best picks siteCount bound compactSet backwardInput backwardSet
 bench-table = refl

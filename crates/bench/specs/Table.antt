@@ -11,6 +11,7 @@ use Rattle.simulator.specs.Faults.{caught}
 use Rattle.simulator.specs.declared.Fault.{Fault}
 use Rattle.judge.specs.Classes.{classFaults}
 use Rattle.judge.specs.Judging.{caughtBySome, verdict}
+use Rattle.testsets.specs.Sets.{siteCount, bound, compactSet, backwardSet}
 use Rattle.bench.specs.Sample.{sample}
 
 infix 68 _gives_
@@ -50,7 +51,11 @@ table =
     catching (record { class = 4; place = 2; line = 2; value = 0 }) gives (1 ∷ 7 ∷ []) ∷
     -- sets that are not stuck-at complete, and the first fault that they leave
     judged (0 ∷ 7 ∷ []) gives (15 ∷ 18 ∷ 0 ∷ 1 ∷ 1 ∷ 2 ∷ 0 ∷ []) ∷
-    judged (0 ∷ 7 ∷ 3 ∷ []) gives (17 ∷ 18 ∷ 0 ∷ 1 ∷ 2 ∷ 1 ∷ 0 ∷ []) ∷ []
+    judged (0 ∷ 7 ∷ 3 ∷ []) gives (17 ∷ 18 ∷ 0 ∷ 1 ∷ 2 ∷ 1 ∷ 0 ∷ []) ∷
+    -- the backward set; the compact set, the number of sites and the bound
+    backwardSet 3 sample gives (0 ∷ 7 ∷ 3 ∷ 5 ∷ []) ∷
+    compactSet 3 sample gives (0 ∷ 3 ∷ 5 ∷ []) ∷
+    (siteCount 3 sample ∷ bound 3 sample ∷ []) gives (9 ∷ 5 ∷ []) ∷ []
 
 -- every row gives what it says
 abbrev pub same : List ℕ → List ℕ → Bool

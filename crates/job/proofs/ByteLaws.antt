@@ -91,7 +91,8 @@ pub words-put : (out words : List ℕ) (at i : ℕ) → i < length words
 unfolding each
 words-put out words at i h =
     rw (drop-cons words i 0 h, add-one i)
-    (sets-append out (at + 4 * i) (at + 4 * suc i) (bytesOf 4 (getD words i 0)) (each (bytesOf 4) (drop (suc i) words)) (omega (arith, length-bytes 4 (getD words i 0))))
+    (sets-append out (at + 4 * i) (at + 4 * suc i) (bytesOf 4 (getD words i 0)) (each (bytesOf 4) (drop (suc i) words))
+    (omega (arith, length-bytes 4 (getD words i 0))))
 
 pub words-put-end : (out words : List ℕ) (at i : ℕ) → length words ≤ i → sets out (at + 4 * i) (each (bytesOf 4) (drop i words)) ≡ out
 unfolding each

@@ -48,7 +48,8 @@ words-fit n (c ∷ s ∷ t ∷ rest) h w e =
 module _ (n : ℕ) (words : List ℕ) (good : firstBadGate n words ≡ 0) where
   left-none : length words % 3 ≡ 0
   unfolding firstBadGate
-  left-none = eqb-true (length words % 3) 0 (not-false (eqb (length words % 3) 0) (none-left (badGate n) (not (eqb (length words % 3) 0)) (gatesOf words) 0 good))
+  left-none = eqb-true (length words % 3) 0
+      (not-false (eqb (length words % 3) 0) (none-left (badGate n) (not (eqb (length words % 3) 0)) (gatesOf words) 0 good))
 
   pub gates-fit : n ≤ 32 → All Word words
   unfolding firstBadGate

@@ -43,7 +43,8 @@ unfolding header fieldBytes each bytesOf
 put-header l n k d m = refl
 
 pub put-image : (l : List ℕ) (n k : ℕ) (words xs : List ℕ) → length (image n k words xs) ≤ length l
-    → sets (sets (sets l 0 (each fieldBytes (header n k (gateCount words) (length xs)))) 28 (each (bytesOf 4) words)) (28 + 4 * length words) (each (bytesOf 4) xs)
+    → sets (sets (sets l 0 (each fieldBytes (header n k (gateCount words) (length xs)))) 28 (each (bytesOf 4) words)) (28 + 4 * length words)
+    (each (bytesOf 4) xs)
     ≡ image n k words xs ++ drop (length (image n k words xs)) l
 unfolding image
 put-image l n k words xs h =
@@ -59,15 +60,18 @@ pub gate-words : (bytes : List ℕ) (words : ℕ) → words ≡ 3 * gatesIn byte
 unfolding gateWords
 gate-words bytes words e = rw e
 
-pub vector-words : (bytes : List ℕ) (count at : ℕ) → count ≡ vectorsIn bytes → at ≡ 28 + 12 * gatesIn bytes → wordsAt count bytes at ≡ vectorWords bytes
+pub vector-words : (bytes : List ℕ) (count at : ℕ) → count ≡ vectorsIn bytes → at ≡ 28 + 12 * gatesIn bytes
+    → wordsAt count bytes at ≡ vectorWords bytes
 unfolding vectorWords
 vector-words bytes count at e p = rw (e, p)
 
 -- the front of a list that they were read into
 pub gates-front : (bytes out rest : List ℕ) (d : ℕ) → out ≡ gateWords bytes ++ rest → d ≡ numberAt 4 bytes 8 → take (3 * d) out ≡ gateWords bytes
 unfolding gateWords gatesIn
-gates-front bytes out rest d e p = ap (take (3 * d)) e ∙ take-at (gateWords bytes) rest (3 * d) (length-words (3 * gatesIn bytes) bytes 28 ∙ ap (λ i. 3 * i) (sym p))
+gates-front bytes out rest d e p = ap (take (3 * d)) e
+    ∙ take-at (gateWords bytes) rest (3 * d) (length-words (3 * gatesIn bytes) bytes 28 ∙ ap (λ i. 3 * i) (sym p))
 
 pub vectors-front : (bytes out rest : List ℕ) (m : ℕ) → out ≡ vectorWords bytes ++ rest → m ≡ numberAt 4 bytes 12 → take m out ≡ vectorWords bytes
 unfolding vectorWords vectorsIn
-vectors-front bytes out rest m e p = ap (take m) e ∙ take-at (vectorWords bytes) rest m (length-words (vectorsIn bytes) bytes (28 + 12 * gatesIn bytes) ∙ sym p)
+vectors-front bytes out rest m e p = ap (take m) e
+    ∙ take-at (vectorWords bytes) rest m (length-words (vectorsIn bytes) bytes (28 + 12 * gatesIn bytes) ∙ sym p)

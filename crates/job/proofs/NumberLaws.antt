@@ -46,7 +46,8 @@ words-front (w ∷ words) rest h =
     let more : List ℕ = each (bytesOf 4) words ++ rest in
     let e : 0 + 4 ≡ length (bytesOf 4 w) + 0 = omega (arith, length-bytes 4 w) in
     rw (append-assoc (bytesOf 4 w) (each (bytesOf 4) words) rest)
-    (ap₂ _∷_ (bytes-number 4 w more (h .0)) (ap (wordsAt (length words) (bytesOf 4 w ++ more)) e ∙ words-skip (length words) (bytesOf 4 w) more 0 ∙ words-front words rest (h .1)))
+    (ap₂ _∷_ (bytes-number 4 w more (h .0)) (ap (wordsAt (length words) (bytesOf 4 w ++ more)) e ∙ words-skip (length words) (bytesOf 4 w) more 0
+    ∙ words-front words rest (h .1)))
 
 pub words-there : (pre words rest : List ℕ) (at : ℕ) → length pre ≡ at → All (λ w. w < 256 ^ 4) words
     → wordsAt (length words) (pre ++ (each (bytesOf 4) words ++ rest)) at ≡ words
@@ -65,7 +66,8 @@ Placed at (field place width value ∷ fs) = (place ≡ at) × ((value < 256 ^ w
 abbrev pub Stands : List ℕ → Field → Type 0
 Stands bytes (field place width value) = numberAt width bytes place ≡ value
 
-pub fields-there : (fs : List Field) (pre rest : List ℕ) (at : ℕ) → length pre ≡ at → Placed at fs → All (Stands (pre ++ (each fieldBytes fs ++ rest))) fs
+pub fields-there : (fs : List Field) (pre rest : List ℕ) (at : ℕ) → length pre ≡ at → Placed at fs
+    → All (Stands (pre ++ (each fieldBytes fs ++ rest))) fs
 unfolding each fieldBytes
 fields-there [] pre rest at e p = tt
 fields-there (field place width value ∷ fs) pre rest at e p =
@@ -73,7 +75,8 @@ fields-there (field place width value ∷ fs) pre rest at e p =
     let more : List ℕ = each fieldBytes fs ++ rest in
     let f : place ≡ length pre + 0 = omega arith in
     let l : length (pre ++ here) ≡ at + width = omega (arith, length-append pre here, length-bytes width value) in
-    let whole : pre ++ ((here ++ each fieldBytes fs) ++ rest) ≡ pre ++ (here ++ more) = ap (λ r. pre ++ r) (append-assoc here (each fieldBytes fs) rest) in
+    let whole : pre ++ ((here ++ each fieldBytes fs) ++ rest) ≡ pre ++ (here ++ more) = ap (λ r. pre ++ r)
+    (append-assoc here (each fieldBytes fs) rest) in
     let number : numberAt width (pre ++ (here ++ more)) place ≡ value =
     ap (numberAt width (pre ++ (here ++ more))) f ∙ number-skip width pre (here ++ more) 0 ∙ bytes-number width value more (p .1 .0) in (
       ap (λ b. numberAt width b place) whole ∙ number,
@@ -92,16 +95,23 @@ byte-low b r h = omega arith
 byte-rest : (b r : ℕ) → b < 256 → (b + 256 * r) / 256 ≡ r
 byte-rest b r h = omega arith
 
-pub number-bytes : (width : ℕ) (bytes : List ℕ) (at : ℕ) → Bytes bytes → at + width ≤ length bytes → bytesOf width (numberAt width bytes at) ≡ take width (drop at bytes)
+pub number-bytes : (width : ℕ) (bytes : List ℕ) (at : ℕ) → Bytes bytes → at + width ≤ length bytes
+    → bytesOf width (numberAt width bytes at) ≡ take width (drop at bytes)
 unfolding bytesOf numberAt
 number-bytes zero bytes at w h = refl
 number-bytes (suc width) bytes at w h =
     let b = all-at (λ x. x < 256) bytes at 0 (omega arith) w in
-    rw (drop-cons bytes at 0 (omega arith), byte-low (getD bytes at 0) (numberAt width bytes (suc at)) b, byte-rest (getD bytes at 0) (numberAt width bytes (suc at)) b)
+    rw (
+      drop-cons bytes at 0 (omega arith),
+      byte-low (getD bytes at 0) (numberAt width bytes (suc at)) b,
+      byte-rest (getD bytes at 0)
+          (numberAt width bytes (suc at)) b,
+    )
     (ap (λ l. getD bytes at 0 ∷ l) (number-bytes width bytes (suc at) w (omega arith)))
 
 -- the bytes of a number, and those after it
-number-on : (width : ℕ) (bytes : List ℕ) (at : ℕ) → Bytes bytes → at + width ≤ length bytes → bytesOf width (numberAt width bytes at) ++ drop (at + width) bytes ≡ drop at bytes
+number-on : (width : ℕ) (bytes : List ℕ) (at : ℕ) → Bytes bytes → at + width ≤ length bytes
+    → bytesOf width (numberAt width bytes at) ++ drop (at + width) bytes ≡ drop at bytes
 number-on width bytes at w h =
     ap₂ _++_ (number-bytes width bytes at w h) (sym (drop-drop width at bytes)) ∙ take-append-drop width (drop at bytes)
 

@@ -1,7 +1,9 @@
--- Jobs and their images. A job that is written is read again as it was, an image that is read is written again as it was, and two jobs have two images.
+-- Jobs and their images: a job that is written is read again as it was, an image that is read is written again as it was,
+-- and two jobs have two images.
 use Prim.Native.Nat.{ℕ, _+_, _*_, _≤_}
 use mathlib.Core.Path.{_≡_, refl, sym, ap, ap₂, _∙_}
 use mathlib.Core.List.{List, [], _++_, append-assoc, append-nil}
+use borrow.Author.Needs.{needs}
 use native.Mathlib.Omega.{arith}
 use lib.ListN.{length, drop, length-append}
 use lib.Seq.{drop-length}
@@ -32,31 +34,7 @@ pub record Holds (bytes : List ℕ) (n k : ℕ) (words xs : List ℕ) : Type 0 w
 module _ (n k : ℕ) (words xs : List ℕ) (ok : JobOk n k words xs) where
   placed : Placed 0 (header n k (gateCount words) (length xs))
   unfolding header
-  placed = (
-    refl,
-    (
-      omega arith,
-      (
-        refl,
-        (
-          omega arith,
-          (
-            refl,
-            (
-              omega arith,
-              (
-                refl,
-                (
-                  omega arith,
-                  (refl, (omega arith, (refl, (omega arith, (refl, (omega arith, (refl, (omega arith, (refl, (omega arith, tt)))))))))),
-                ),
-              ),
-            ),
-          ),
-        ),
-      ),
-    ),
-  )
+  placed = search needs
 
   -- every field of the header stands at its place
   pub header-stands : All (Stands (image n k words xs)) (header n k (gateCount words) (length xs))
@@ -76,7 +54,8 @@ module _ (n k : ℕ) (words xs : List ℕ) (ok : JobOk n k words xs) where
   image-gate-words =
       let e : 3 * gatesIn (image n k words xs) ≡ length words = omega (arith, image-gates, gates-whole n words (ok .gates-good)) in
       ap (λ c. wordsAt c (image n k words xs) 28) e
-      ∙ words-there (each fieldBytes (header n k (gateCount words) (length xs))) words (each (bytesOf 4) xs) 28 (length-header n k (gateCount words) (length xs))
+      ∙ words-there (each fieldBytes (header n k (gateCount words) (length xs))) words (each (bytesOf 4) xs) 28
+      (length-header n k (gateCount words) (length xs))
       (gates-fit n words (ok .gates-good) (ok .lines-fit))
 
   image-vector-words : vectorWords (image n k words xs) ≡ xs
@@ -86,8 +65,17 @@ module _ (n k : ℕ) (words xs : List ℕ) (ok : JobOk n k words xs) where
       let gs : List ℕ = each (bytesOf 4) words in
       let vs : List ℕ = each (bytesOf 4) xs in
       let at : length (front ++ gs) ≡ 28 + 12 * gatesIn (image n k words xs) =
-      omega (arith, length-append front gs, length-header n k (gateCount words) (length xs), length-words-bytes words, image-gates, gates-whole n words (ok .gates-good)) in
-      let e : image n k words xs ≡ (front ++ gs) ++ (vs ++ []) = sym (append-assoc front gs (vs ++ []) ∙ ap (λ r. front ++ (gs ++ r)) (append-nil vs)) in
+      omega (
+        arith,
+        length-append front gs,
+        length-header n k (gateCount words)
+            (length xs),
+        length-words-bytes words,
+        image-gates,
+        gates-whole n words (ok .gates-good),
+      ) in
+      let e : image n k words xs ≡ (front ++ gs) ++ (vs ++ []) = sym
+      (append-assoc front gs (vs ++ []) ∙ ap (λ r. front ++ (gs ++ r)) (append-nil vs)) in
       ap₂ (λ c b. wordsAt c b (28 + 12 * gatesIn (image n k words xs))) image-vectors e
       ∙ words-there (front ++ gs) xs [] (28 + 12 * gatesIn (image n k words xs)) at (vectors-fit n xs (ok .lines-fit) (ok .vectors-good))
 
@@ -171,7 +159,8 @@ module _ (bytes : List ℕ) (h : HeaderOk bytes) (w : Bytes bytes) where
 -- ---- the theorems
 
 -- A job that breaks no rule stands in its image as it is, and the image breaks no rule where there is room.
-pub read-written : (n k : ℕ) (words xs : List ℕ) (room : ℕ) → fine ≡ firstOf (writeRows n k words xs room) fine → Holds (image n k words xs) n k words xs
+pub read-written : (n k : ℕ) (words xs : List ℕ) (room : ℕ) → fine ≡ firstOf (writeRows n k words xs room) fine
+    → Holds (image n k words xs) n k words xs
 read-written n k words xs room e = holds n k words xs (write-ok n k words xs room e .job)
 
 pub read-written-fine : (n k : ℕ) (words xs : List ℕ) (room gateRoom vectorRoom : ℕ) → fine ≡ firstOf (writeRows n k words xs room) fine
@@ -187,15 +176,20 @@ written-read bytes gateRoom vectorRoom w e =
     let h = read-ok bytes gateRoom vectorRoom e .head in
     let d = gate-count bytes in
     let m = vector-count bytes in
-    rw (d, m) (ap (λ r. each fieldBytes (header (linesIn bytes) (classesIn bytes) (gatesIn bytes) (vectorsIn bytes)) ++ r) (content-back bytes h w) ∙ header-back bytes h w)
+    rw (d, m) (ap (λ r. each fieldBytes (header (linesIn bytes) (classesIn bytes) (gatesIn bytes) (vectorsIn bytes)) ++ r)
+    (content-back bytes h w) ∙ header-back bytes h w)
 
 -- Two jobs that break no rule and have the same image are the same job.
 pub one-image : (n k : ℕ) (words xs : List ℕ) (room : ℕ) (n' k' : ℕ) (words' xs' : List ℕ) (room' : ℕ)
-    → fine ≡ firstOf (writeRows n k words xs room) fine → fine ≡ firstOf (writeRows n' k' words' xs' room') fine → image n k words xs ≡ image n' k' words' xs'
+    → fine ≡ firstOf (writeRows n k words xs room) fine → fine ≡ firstOf (writeRows n' k' words' xs' room') fine
+    → image n k words xs ≡ image n' k' words' xs'
     → (n ≡ n') × ((k ≡ k') × ((words ≡ words') × (xs ≡ xs')))
 one-image n k words xs room n' k' words' xs' room' e e' same =
     let a = read-written n k words xs room e in
     let b = read-written n' k' words' xs' room' e' in (
       sym (a .lines) ∙ ap linesIn same ∙ b .lines,
-      (sym (a .classes) ∙ ap classesIn same ∙ b .classes, (sym (a .gate-words) ∙ ap gateWords same ∙ b .gate-words, sym (a .vector-words) ∙ ap vectorWords same ∙ b .vector-words)),
+      (
+        sym (a .classes) ∙ ap classesIn same ∙ b .classes,
+        (sym (a .gate-words) ∙ ap gateWords same ∙ b .gate-words, sym (a .vector-words) ∙ ap vectorWords same ∙ b .vector-words),
+      ),
     )

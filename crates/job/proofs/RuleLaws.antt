@@ -37,14 +37,25 @@ module _ (bytes : List ℕ) where
       → (numberAt 4 bytes 24 ≡ 28 + 12 * gatesIn bytes + 4 * vectorsIn bytes → ⊥) → true ≡ badSizes bytes
   unfolding badSizes
   sizes-end a b d =
-      rw (eq-eqb (numberAt 4 bytes 16) 28 a, eq-eqb (numberAt 4 bytes 20) (28 + 12 * gatesIn bytes) b, ne-eqb (numberAt 4 bytes 24) (28 + 12 * gatesIn bytes + 4 * vectorsIn bytes) d)
+      rw (
+        eq-eqb (numberAt 4 bytes 16) 28 a,
+        eq-eqb (numberAt 4 bytes 20) (28 + 12 * gatesIn bytes) b,
+        ne-eqb (numberAt 4 bytes 24)
+            (28 + 12 * gatesIn bytes + 4 * vectorsIn bytes) d,
+      )
 
   pub sizes-all : numberAt 4 bytes 16 ≡ 28 → numberAt 4 bytes 20 ≡ 28 + 12 * gatesIn bytes
       → numberAt 4 bytes 24 ≡ 28 + 12 * gatesIn bytes + 4 * vectorsIn bytes
       → (end : ℕ) → end ≡ 28 + 12 * gatesIn bytes + 4 * vectorsIn bytes → not (eqb (length bytes) end) ≡ badSizes bytes
   unfolding badSizes
   sizes-all a b d end e =
-      rw (e, eq-eqb (numberAt 4 bytes 16) 28 a, eq-eqb (numberAt 4 bytes 20) (28 + 12 * gatesIn bytes) b, eq-eqb (numberAt 4 bytes 24) (28 + 12 * gatesIn bytes + 4 * vectorsIn bytes) d)
+      rw (
+        e,
+        eq-eqb (numberAt 4 bytes 16) 28 a,
+        eq-eqb (numberAt 4 bytes 20) (28 + 12 * gatesIn bytes) b,
+        eq-eqb (numberAt 4 bytes 24)
+            (28 + 12 * gatesIn bytes + 4 * vectorsIn bytes) d,
+      )
 
 -- ---- the header: one law for each row
 
@@ -80,7 +91,8 @@ module _ (bytes : List ℕ) where
 
 -- ---- two checks, one after the other
 
-pub sooner-rows : (rows more : List Row) (a b : Checked) → found a ≡ firstOf rows fine → found b ≡ firstOf more fine → found (sooner a b) ≡ firstOf (rows ++ more) fine
+pub sooner-rows : (rows more : List Row) (a b : Checked) → found a ≡ firstOf rows fine → found b ≡ firstOf more fine
+    → found (sooner a b) ≡ firstOf (rows ++ more) fine
 sooner-rows rows more Fine b e f = f ∙ sym (fine-on rows more fine e)
 sooner-rows rows more (Wrong r) b e f = refused-on rows more fine (r .number) (r .place) e
 
@@ -162,19 +174,24 @@ header-ok bytes e0 =
 abbrev roomRows : List ℕ → ℕ → ℕ → List Row
 roomRows bytes words vectors = refuse 10 at 0 when badRoom bytes words vectors ∷ []
 
-read-parts : (bytes : List ℕ) (words vectors : ℕ) → readRows bytes words vectors ≡ headerRows bytes ++ (contentRowsIn bytes ++ roomRows bytes words vectors)
+read-parts : (bytes : List ℕ) (words vectors : ℕ)
+    → readRows bytes words vectors ≡ headerRows bytes ++ (contentRowsIn bytes ++ roomRows bytes words vectors)
 unfolding readRows headerRows contentRowsIn contentRows badLines badCounts badRoom
 read-parts bytes words vectors = refl
 
-pub read-header : (bytes : List ℕ) (words vectors k p : ℕ) → refused k p ≡ firstOf (headerRows bytes) fine → refused k p ≡ firstOf (readRows bytes words vectors) fine
-read-header bytes words vectors k p e = rw (read-parts bytes words vectors) (refused-on (headerRows bytes) (contentRowsIn bytes ++ roomRows bytes words vectors) fine k p e)
+pub read-header : (bytes : List ℕ) (words vectors k p : ℕ) → refused k p ≡ firstOf (headerRows bytes) fine
+    → refused k p ≡ firstOf (readRows bytes words vectors) fine
+read-header bytes words vectors k p e = rw (read-parts bytes words vectors)
+    (refused-on (headerRows bytes) (contentRowsIn bytes ++ roomRows bytes words vectors) fine k p e)
 
 pub read-rest : (bytes : List ℕ) (words vectors : ℕ) (bad : Bool) (content room : Checked) → fine ≡ firstOf (headerRows bytes) fine
-    → found content ≡ firstOf (contentRowsIn bytes) fine → bad ≡ badRoom bytes words vectors → found room ≡ firstOf (refuse 10 at 0 when not (not bad) ∷ []) fine
+    → found content ≡ firstOf (contentRowsIn bytes) fine → bad ≡ badRoom bytes words vectors
+    → found room ≡ firstOf (refuse 10 at 0 when not (not bad) ∷ []) fine
     → found (sooner content room) ≡ firstOf (readRows bytes words vectors) fine
 read-rest bytes words vectors bad content room e f b g =
     rw (read-parts bytes words vectors)
-    (sooner-rows (contentRowsIn bytes) (roomRows bytes words vectors) content room f (rw (not-not bad, b) at g) ∙ sym (fine-on (headerRows bytes) (contentRowsIn bytes ++ roomRows bytes words vectors) fine e))
+    (sooner-rows (contentRowsIn bytes) (roomRows bytes words vectors) content room f (rw (not-not bad, b) at g)
+    ∙ sym (fine-on (headerRows bytes) (contentRowsIn bytes ++ roomRows bytes words vectors) fine e))
 
 -- a job that is read and breaks no rule
 pub record ReadOk (bytes : List ℕ) (words vectors : ℕ) : Type 0 where

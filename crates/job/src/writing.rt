@@ -17,13 +17,8 @@ fn put_header(out: &mut [u8], lines: u32, classes: u32, gates: u32, vectors: u32
     bytes::put_2(out, 2, lines);
     bytes::put_2(out, 4, classes);
     bytes::put_2(out, 6, 0);
-    let sizes = [
-        gates,
-        vectors,
-        28,
-        28 + 12 * gates,
-        28 + 12 * gates + 4 * vectors,
-    ];
+    let past_gates = 28 + 12 * gates;
+    let sizes = [gates, vectors, 28, past_gates, past_gates + 4 * vectors];
     bytes::put_words(out, 8, &sizes);
 }
 

@@ -42,7 +42,8 @@ backward-input-level n gs ok i = forward-backward n gs ok i (inverse n (forward 
 -- the vector of level 0 has all lines 1
 backward-input-zero : (n : ℕ) (gs : List Gate) → backwardInput n gs 0 ≡ allOnes n
 unfolding backwardInput
-backward-input-zero n gs = backward-none gs (inverse n (forward gs 0 0)) ∙ ap (inverse n) (sym (onward-forward gs 0 0) ∙ onward-none gs 0 0) ∙ inverse-of-zero n
+backward-input-zero n gs = backward-none gs (inverse n (forward gs 0 0)) ∙ ap (inverse n) (sym (onward-forward gs 0 0) ∙ onward-none gs 0 0)
+    ∙ inverse-of-zero n
 
 -- the set has the vector of every level
 backward-set-has : (n : ℕ) (gs : List Gate) (i : ℕ) → i ≤ length gs → List·Memᴰ (backwardInput n gs i) (backwardSet n gs)
@@ -51,7 +52,8 @@ backward-set-has n gs zero h = List·Memᴰ·tail (List·Memᴰ·head (backward-
 backward-set-has n gs (suc i) h =
     let rest : List ℕ = map (backwardInput n gs) (upFrom 1 (length gs)) in
     List·Memᴰ·tail (List·Memᴰ·tail
-    (upFrom-all (λ y. List·Memᴰ (backwardInput n gs y) rest) 1 (length gs) (all-mapped (backwardInput n gs) (upFrom 1 (length gs))) (suc i) (omega arith) (omega arith)))
+    (upFrom-all (λ y. List·Memᴰ (backwardInput n gs y) rest) 1 (length gs) (all-mapped (backwardInput n gs) (upFrom 1 (length gs))) (suc i)
+    (omega arith) (omega arith)))
 
 backward-set-has-zero : (n : ℕ) (gs : List Gate) → List·Memᴰ 0 (backwardSet n gs)
 unfolding backwardSet
@@ -87,7 +89,11 @@ pub backward-lts : (n : ℕ) (gs : List Gate) → AllOk n gs → All (λ x. x < 
 unfolding backwardSet
 backward-lts n gs ok = (
   pow-pos n,
-  (all-ones-lt n, all-over (λ x. x < 2 ^ n) (backwardInput n gs) (upFrom 1 (length gs)) (all-of _ (backward-input-lt n gs ok) (upFrom 1 (length gs)))),
+  (
+    all-ones-lt n,
+    all-over (λ x. x < 2 ^ n) (backwardInput n gs) (upFrom 1 (length gs))
+        (all-of _ (backward-input-lt n gs ok) (upFrom 1 (length gs))),
+  ),
 )
 
 -- two, and one for each gate
@@ -121,14 +127,15 @@ module _ (n : ℕ) (gs : List Gate) (ones : ℕ) (ones-are : ones ≡ allOnes n)
 
   -- level i + 1, whose state of all zeros is s
   pub backward-turn : (now : List ℕ) (i k s v : ℕ) → i < length gs → s ≡ forward gs (i + 1) 0 → k ≡ i + 1 → v ≡ backward gs k (bitXor s ones)
-      → now ≡ take (i + 2) (backwardSet n gs) ++ drop (i + 2) old → set now (i + 1 + 1) v ≡ take (i + 1 + 2) (backwardSet n gs) ++ drop (i + 1 + 2) old
+      → now ≡ take (i + 2) (backwardSet n gs) ++ drop (i + 2) old
+      → set now (i + 1 + 1) v ≡ take (i + 1 + 2) (backwardSet n gs) ++ drop (i + 1 + 2) old
   unfolding backwardInput
   backward-turn now i k s v h here number back e =
       let many = backward-length n gs in
       let at : i + 1 + 1 ≡ i + 2 = omega arith in
       let next : i + 1 + 2 ≡ i + 2 + 1 = omega arith in
       let input : v ≡ backwardInput n gs (i + 1) =
-          back ∙ ap₂ (backward gs) number (ap₂ bitXor here ones-are ∙ inverse-code n (forward gs (i + 1) 0)) in
+      back ∙ ap₂ (backward gs) number (ap₂ bitXor here ones-are ∙ inverse-code n (forward gs (i + 1) 0)) in
       rw (next, at) (fill-turn (backwardSet n gs) old now (i + 2) v (omega arith) (omega arith) e (input ∙ sym (backward-later n gs i h)))
 
 -- after the last turn the whole set stands there

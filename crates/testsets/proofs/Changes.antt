@@ -27,5 +27,6 @@ module _ (f : ℕ → ℕ → ℕ) (old : List ℕ) where
   }
 
   -- and the last place, by another name
-  pub changed-last : (now : List ℕ) (i e k v : ℕ) → e ≡ i → k ≡ i + 1 → i < length now → Changed f i old now → v ≡ f i (getD now e 0) → Changed f k old (set now e v)
+  pub changed-last : (now : List ℕ) (i e k v : ℕ) → e ≡ i → k ≡ i + 1 → i < length now → Changed f i old now
+      → v ≡ f i (getD now e 0) → Changed f k old (set now e v)
   changed-last now i e k v same next h w q = rw (same, next) (changed-more now i v h w (q ∙ ap (λ p. f i (getD now p 0)) same))

@@ -25,7 +25,8 @@ use Rattle.simulator.specs.declared.Fault.{Fault}
 use Rattle.simulator.proofs.FaultLaws.{stuck-caught}
 use Rattle.judge.specs.Judging.{left}
 use Rattle.testsets.specs.Sets.{score, bestOf, best}
-use Rattle.testsets.proofs.TotalLaws.{total, total-is-sum, sum-of-counts, total-cong, total-add, total-const, total-flip, total-forward, some-above}
+use Rattle.testsets.proofs.TotalLaws.{total, total-is-sum, sum-of-counts, total-cong, total-add, total-const, total-flip, total-forward}
+use Rattle.testsets.proofs.TotalLaws.{some-above}
 use Rattle.testsets.proofs.SetLaws.{score-cons, score-left}
 
 -- ---- one fault
@@ -80,7 +81,8 @@ total-score n gs ok (f ∷ fs) w =
 pub some-half : (n : ℕ) (gs : List Gate) → AllOk n gs → (fs : List Fault) → All (StuckOk n (length gs)) fs
     → (x : ℕ) × (x < 2 ^ n) × (length fs ≤ 2 * score gs fs x)
 some-half n gs ok fs w =
-    let r = some-above n (λ x. score gs fs x + score gs fs x) (length fs) (omega (arith, total-add n (λ x. score gs fs x) (λ x. score gs fs x), total-score n gs ok fs w)) in
+    let r = some-above n (λ x. score gs fs x + score gs fs x) (length fs)
+    (omega (arith, total-add n (λ x. score gs fs x) (λ x. score gs fs x), total-score n gs ok fs w)) in
     (r .0, r .1, omega arith)
 
 -- ---- the best vector
@@ -116,10 +118,12 @@ best-lt n gs fs = best-of-one (λ x. x < 2 ^ n) gs fs 0 (upFrom 0 (2 ^ n)) (pow-
 pub best-above : (n : ℕ) (gs : List Gate) (fs : List Fault) (x : ℕ) → x < 2 ^ n → score gs fs x ≤ score gs fs (best n gs fs)
 unfolding best
 best-above n gs fs x h =
-    upFrom-all (λ y. score gs fs y ≤ score gs fs (bestOf gs fs 0 (upFrom 0 (2 ^ n)))) 0 (2 ^ n) (best-of-best gs fs 0 (upFrom 0 (2 ^ n)) .1) x zero-le (omega arith)
+    upFrom-all (λ y. score gs fs y ≤ score gs fs (bestOf gs fs 0 (upFrom 0 (2 ^ n)))) 0 (2 ^ n)
+    (best-of-best gs fs 0 (upFrom 0 (2 ^ n)) .1) x zero-le (omega arith)
 
 -- it catches at least half
-pub best-half : (n : ℕ) (gs : List Gate) → AllOk n gs → (fs : List Fault) → All (StuckOk n (length gs)) fs → length fs ≤ 2 * score gs fs (best n gs fs)
+pub best-half : (n : ℕ) (gs : List Gate) → AllOk n gs → (fs : List Fault) → All (StuckOk n (length gs)) fs
+    → length fs ≤ 2 * score gs fs (best n gs fs)
 best-half n gs ok fs w = let r = some-half n gs ok fs w in omega (arith, best-above n gs fs (r .0) (r .1))
 
 -- so at most half is left

@@ -21,7 +21,7 @@ use Rattle.words.proofs.Bits.{by-bit}
 use Rattle.words.proofs.Inverse.{not-off, not-on, inverse-code}
 use Rattle.words.proofs.LineLists.{all-lines}
 use Rattle.words.proofs.OrLaws.{on-and}
-use Rattle.words.proofs.SplitLaws.{lines-wide, on-lacking, split-lt, split-count}
+use Rattle.words.proofs.SplitLaws.{length-wide, lacking-off, split-lt, split-count}
 use Rattle.circuit.specs.Runs.{forward}
 use Rattle.circuit.specs.Sound.{AllOk}
 use Rattle.circuit.specs.declared.Gate.{Gate}
@@ -111,7 +111,7 @@ module _ (n : ℕ) (gs : List Gate) (ok : AllOk n gs) (at0 at1 : List ℕ) where
       sum-more (λ k. length (linesOn n (newlyCaught n gs at0 at1 x k))) i (suc (length gs)) (omega arith)
       ∙ ap (λ m. m + caughtFrom n gs at0 at1 x (i + 1))
       (sym (ap (λ w. length (linesOn 32 w)) word
-      ∙ lines-wide n 32 (newlyCaught n gs at0 at1 x i) wide (split-lt n t (getD at0 i 0) (getD at1 i 0) (forward-lt n gs ok i x fits))))
+      ∙ length-wide n 32 (newlyCaught n gs at0 at1 x i) wide (split-lt n t (getD at0 i 0) (getD at1 i 0) (forward-lt n gs ok i x fits))))
 
   -- and the last level
   pub score-last : (x i e s ones : ℕ) → n ≤ 32 → x < 2 ^ n → i ≡ length gs → e ≡ i → ones ≡ allOnes n → s ≡ forward gs i x
@@ -139,7 +139,7 @@ module _ (n : ℕ) (gs : List Gate) (ok : AllOk n gs) (at0 at1 : List ℕ) where
         let s : ℕ = forward gs i x in
         let a : ℕ = getD at0 i 0 in
         ap (λ t. eqb (bit a j) 1 && t) (not-caught (caught gs (faultOf 1 i j 0) x) s j (caught-zero x i j hi (site-below n gs i j o)))
-        ∙ sym (ap (λ w. eqb (bit w j) 1) (zeros .done i (omega arith)) ∙ on-lacking a s j)
+        ∙ sym (ap (λ w. eqb (bit w j) 1) (zeros .done i (omega arith)) ∙ lacking-off a s j)
     still-marked i j (suc zero) hi o hv =
         let s : ℕ = forward gs i x in
         let b : ℕ = getD at1 i 0 in
@@ -160,7 +160,7 @@ module _ (n : ℕ) (gs : List Gate) (ok : AllOk n gs) (at0 at1 : List ℕ) where
         inside = λ i j h o.
             let s : ℕ = forward gs i x in
             let w : ℕ = getD at0 i 0 in
-            let seen = sym (on-lacking w s j) ∙ eq-eqb (bit (lacking w s) j) 1 (ap (λ t. bit t j) (sym (zeros .done i (omega arith))) ∙ o) in
+            let seen = sym (lacking-off w s j) ∙ eq-eqb (bit (lacking w s) j) 1 (ap (λ t. bit t j) (sym (zeros .done i (omega arith))) ∙ o) in
             on .at-0 .inside i j h (eqb-true (bit w j) 1 (and-both (eqb (bit w j) 1) (eqb (bit s j) 0) seen .0));
       };
       at-1 = record {

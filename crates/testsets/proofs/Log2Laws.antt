@@ -52,7 +52,8 @@ pub log2-half : (m : ℕ) → 2 ≤ m → log2 m ≡ log2 (m / 2) + 1
 unfolding log2 log2In
 log2-half zero h = absurd (omega arith)
 log2-half (suc m) h =
-    pick-false (le-ltb (suc m) 2 h) 0 _ ∙ ap suc (log2In-same m (suc m / 2) (suc m / 2) (omega arith) (le-refl (suc m / 2))) ∙ sym (add-one (log2 (suc m / 2)))
+    pick-false (le-ltb (suc m) 2 h) 0 _
+    ∙ ap suc (log2In-same m (suc m / 2) (suc m / 2) (omega arith) (le-refl (suc m / 2))) ∙ sym (add-one (log2 (suc m / 2)))
 
 -- it is not above the number
 pub log2-le-self : (m : ℕ) → 1 ≤ m → log2 m ≤ m

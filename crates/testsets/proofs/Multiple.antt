@@ -74,7 +74,8 @@ force-hits f fs s (List·Memᴰ·head {x = h} {xs = hs} q) w v =
     (force-kept hs (h .place) (pick (eqb (h .place) (h .place)) (force s (h .line) (h .value)) s) (h .line) (w .0)
     ∙ ap (λ t. bit t (h .line)) (pick-true (eq-eqb (h .place) (h .place) refl) (force s (h .line) (h .value)) s)
     ∙ bit-force-same s (h .line) (h .value) (subst (λ y. y .value ≤ 1) q v))
-force-hits f fs s (List·Memᴰ·tail {x = h} {xs = hs} m) w v = force-hits f hs (pick (eqb (h .place) (f .place)) (force s (h .line) (h .value)) s) m (w .1) v
+force-hits f fs s (List·Memᴰ·tail {x = h} {xs = hs} m) w v =
+    force-hits f hs (pick (eqb (h .place) (f .place)) (force s (h .line) (h .value)) s) m (w .1) v
 
 -- ---- the deepest level
 

@@ -60,7 +60,8 @@ pub record Picking (n : ℕ) (gs : List Gate) (old room at0 at1 : List ℕ) (rem
   pub made : count ≤ length (compactSet n gs)
 
 -- at the start all sites are left
-pub picking-begin : (n : ℕ) (gs : List Gate) (old ws : List ℕ) (remain : ℕ) → AllSites n gs ws → remain ≡ 2 * siteCount n gs → Picking n gs old old ws ws remain 0
+pub picking-begin : (n : ℕ) (gs : List Gate) (old ws : List ℕ) (remain : ℕ) → AllSites n gs ws → remain ≡ 2 * siteCount n gs
+    → Picking n gs old old ws ws remain 0
 unfolding compactSet
 picking-begin n gs old ws remain all e =
     let same : leftOf n gs ws ws ≡ stuckFaults n gs = sites-left-all n gs ws all in
@@ -74,7 +75,8 @@ picking-begin n gs old ws remain all e =
       made = zero-le;
     }
 
-module _ (n : ℕ) (gs : List Gate) (ok : AllOk n gs) (old room at0 at1 : List ℕ) (remain count : ℕ) (now : Picking n gs old room at0 at1 remain count) where
+module _ (n : ℕ) (gs : List Gate) (ok : AllOk n gs) (old room at0 at1 : List ℕ) (remain count : ℕ)
+    (now : Picking n gs old room at0 at1 remain count) where
   -- ---- something is left
 
   module _ (some : 0 < remain) where
@@ -89,7 +91,8 @@ module _ (n : ℕ) (gs : List Gate) (ok : AllOk n gs) (old room at0 at1 : List �
         above (suc k) e = omega arith
 
     next-pick : drop count (compactSet n gs)
-        ≡ best n gs (leftOf n gs at0 at1) ∷ picks (bound n gs - (count + 1)) n gs (left gs (best n gs (leftOf n gs at0 at1) ∷ []) (leftOf n gs at0 at1))
+        ≡ best n gs (leftOf n gs at0 at1)
+        ∷ picks (bound n gs - (count + 1)) n gs (left gs (best n gs (leftOf n gs at0 at1) ∷ []) (leftOf n gs at0 at1))
     next-pick =
         now .to-come ∙ ap (λ k. picks k n gs (leftOf n gs at0 at1)) spare
         ∙ picks-some n gs (bound n gs - (count + 1)) (leftOf n gs at0 at1) (omega (arith, now .remain-is))

@@ -67,7 +67,9 @@ picks-enough n gs ok (suc m) (suc k) [] w h l = refl
 picks-enough n gs ok (suc m) (suc k) (f ∷ fs) w h l =
     let b : ℕ = best n gs (f ∷ fs) in
     let rest : List Fault = left gs (b ∷ []) (f ∷ fs) in
-    ap (λ xs. b ∷ xs) (picks-enough n gs ok m k rest (all-left (StuckOk n (length gs)) gs (b ∷ []) (f ∷ fs) w) (omega (arith, half-left n gs ok (f ∷ fs) w)) (le-of-suc-le-suc l))
+    ap (λ xs. b ∷ xs)
+    (picks-enough n gs ok m k rest (all-left (StuckOk n (length gs)) gs (b ∷ []) (f ∷ fs) w) (omega (arith, half-left n gs ok (f ∷ fs) w))
+    (le-of-suc-le-suc l))
 
 -- every pick is an input
 pub picks-lt : (n : ℕ) (gs : List Gate) (k : ℕ) (fs : List Fault) → All (λ x. x < 2 ^ n) (picks k n gs fs)

@@ -48,7 +48,8 @@ or-nothing false = refl
 pub score-left : (gs : List Gate) (fs : List Fault) (x : ℕ) → score gs fs x + length (left gs (x ∷ []) fs) ≡ length fs
 unfolding score left caughtBySome some
 score-left gs fs x =
-    ap (λ l. length (keep (λ f. caught gs f x) fs) + length l) (keep-cong (λ f. ap not (or-nothing (caught gs f x))) fs) ∙ keep-parts (λ f. caught gs f x) fs
+    ap (λ l. length (keep (λ f. caught gs f x) fs) + length l) (keep-cong (λ f. ap not (or-nothing (caught gs f x))) fs)
+    ∙ keep-parts (λ f. caught gs f x) fs
 
 not-or : (b c : Bool) → not (b || false) && not c ≡ not (b || c)
 not-or true c = refl
@@ -81,7 +82,8 @@ unfolding left
 complete-iff n gs xs = (
   λ e i j v hi o hv.
       sym (not-not (caughtBySome gs xs (faultOf 1 i j v)))
-      ∙ ap not (stuck-all (λ f. not (caughtBySome gs xs f) ≡ false) n gs (none-kept (λ f. not (caughtBySome gs xs f)) (stuckFaults n gs) e) i j v hi o hv),
+      ∙ ap not (stuck-all (λ f. not (caughtBySome gs xs f) ≡ false) n gs
+      (none-kept (λ f. not (caughtBySome gs xs f)) (stuckFaults n gs) e) i j v hi o hv),
   λ h. keep-none (λ f. not (caughtBySome gs xs f)) (stuckFaults n gs)
       (all-stuck (λ f. not (caughtBySome gs xs f) ≡ false) n gs (λ i j v hi o hv. ap not (h i j v hi o hv))),
 )
@@ -97,7 +99,8 @@ pub complete-catches : (n : ℕ) (gs : List Gate) (xs : List ℕ) → Complete n
 unfolding caughtBySome
 complete-catches n gs xs e f k o =
     some-entry (caught gs f) xs
-    (subst (λ h. some (caught gs h) xs ≡ true) (stuck-is n (length gs) f k) (complete-iff n gs xs .0 e (f .place) (f .line) (f .value) (k .place-in) o (k .value-in)))
+    (subst (λ h. some (caught gs h) xs ≡ true) (stuck-is n (length gs) f k)
+    (complete-iff n gs xs .0 e (f .place) (f .line) (f .value) (k .place-in) o (k .value-in)))
 
 -- the judge's verdict on a complete set: all are caught, and none is the first that is left
 pub complete-verdict : (n : ℕ) (gs : List Gate) (xs : List ℕ) → Complete n gs xs

@@ -10,7 +10,7 @@ use Rattle.basics.specs.Sums.{sumFrom}
 use Rattle.basics.proofs.SumLaws.{sum-more, sum-end}
 use Rattle.words.specs.Word.{bit, linesOn}
 use Rattle.words.proofs.Masks.{bit-all-ones}
-use Rattle.words.proofs.SplitLaws.{lines-wide}
+use Rattle.words.proofs.SplitLaws.{length-wide}
 use Rattle.circuit.specs.Gates.{gatesOf}
 use Rattle.circuit.specs.Sound.{Sound}
 use Rattle.circuit.specs.declared.Gate.{Gate}
@@ -58,10 +58,11 @@ pub sites-all : (n : ℕ) (gs : List Gate) → siteCount n gs ≡ sitesFrom n gs
 unfolding siteCount
 sites-all n gs = let all : suc (length gs) ≡ suc (length gs) - 0 = omega arith in ap (sumFrom (λ k. length (linesOn n (sites n gs k))) 0) all
 
-pub sites-more : (n : ℕ) (gs : List Gate) (i w : ℕ) → n ≤ 32 → i ≤ length gs → w ≡ sites n gs i → sitesFrom n gs i ≡ length (linesOn 32 w) + sitesFrom n gs (i + 1)
+pub sites-more : (n : ℕ) (gs : List Gate) (i w : ℕ) → n ≤ 32 → i ≤ length gs → w ≡ sites n gs i
+    → sitesFrom n gs i ≡ length (linesOn 32 w) + sitesFrom n gs (i + 1)
 sites-more n gs i w wide h e =
     sum-more (λ k. length (linesOn n (sites n gs k))) i (suc (length gs)) (omega arith)
-    ∙ ap (λ m. m + sitesFrom n gs (i + 1)) (sym (ap (λ v. length (linesOn 32 v)) e ∙ lines-wide n 32 (sites n gs i) wide (sites-lt n gs i)))
+    ∙ ap (λ m. m + sitesFrom n gs (i + 1)) (sym (ap (λ v. length (linesOn 32 v)) e ∙ length-wide n 32 (sites n gs i) wide (sites-lt n gs i)))
 
 pub sites-none : (n : ℕ) (gs : List Gate) (i : ℕ) → length gs < i → sitesFrom n gs i ≡ 0
 sites-none n gs i h = sum-end (λ k. length (linesOn n (sites n gs k))) i (suc (length gs)) h

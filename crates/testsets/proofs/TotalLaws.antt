@@ -61,7 +61,8 @@ pub total-add : (n : ℕ) (F G : ℕ → ℕ) → total n (λ x. F x + G x) ≡ 
 unfolding total
 total-add zero F G = refl
 total-add (suc n) F G =
-    total-cong n {F = λ x. F (x * 2) + G (x * 2) + (F (x * 2 + 1) + G (x * 2 + 1))} {G = λ x. F (x * 2) + F (x * 2 + 1) + (G (x * 2) + G (x * 2 + 1))} (λ x. omega arith)
+    total-cong n {F = λ x. F (x * 2) + G (x * 2) + (F (x * 2 + 1) + G (x * 2 + 1))} {G =
+    λ x. F (x * 2) + F (x * 2 + 1) + (G (x * 2) + G (x * 2 + 1))} (λ x. omega arith)
     ∙ total-add n (λ x. F (x * 2) + F (x * 2 + 1)) (λ x. G (x * 2) + G (x * 2 + 1))
 
 pub pow-double : (n c : ℕ) → 2 ^ suc n * c ≡ 2 ^ n * (c + c)

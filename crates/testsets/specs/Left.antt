@@ -1,4 +1,5 @@
--- The stuck-at faults that are still left, as words of lines: for each level the lines whose stuck-at-0 fault is left, and those whose stuck-at-1 fault is.
+-- The stuck-at faults that are still left, as words of lines.
+-- For each level there is a word of the lines whose stuck-at-0 fault is left, and one of those whose stuck-at-1 fault is.
 use Prim.Native.Nat.{ℕ, _≤_, _<_}
 use mathlib.Core.Path.{_≡_}
 use mathlib.Core.List.{List}

@@ -17,7 +17,8 @@ pub fn make(lines: u32, gates: &[u32], room: &mut [u32]) -> u32
     requires { ⌜ Sound lines (now gates) ⌝ }
     requires { ⌜ length (gatesOf (now gates)) + 2 ≤ length (now room) ⌝ }
     ensures { λ r. ⌜ (r ≡ length (backwardSet lines (gatesOf (now (gates .entry))))) ×
-        (now (room .exit) ≡ backwardSet lines (gatesOf (now (gates .entry))) ++ drop (length (backwardSet lines (gatesOf (now (gates .entry))))) (now (room .entry))) ⌝ }
+        (now (room .exit) ≡ backwardSet lines (gatesOf (now (gates .entry))) ++
+        drop (length (backwardSet lines (gatesOf (now (gates .entry))))) (now (room .entry))) ⌝ }
 {
     let ones = words::checked::all_ones(lines);
     let end = gates.len() / 3;
@@ -26,7 +27,10 @@ pub fn make(lines: u32, gates: &[u32], room: &mut [u32]) -> u32
     let mut state = 0;
     let mut i = 0;
     while i < end {
-        state = step(gate_at(gates, numbers::gate_after(numbers::level(i))), state);
+        state = step(
+            gate_at(gates, numbers::gate_after(numbers::level(i))),
+            state,
+        );
         i += 1;
         room[i + 1] = run_backward(lines, gates, numbers::level(i), state ^ ones);
     }

@@ -23,8 +23,10 @@ fn best(lines: u32, gates: &[u32], left_0: &[u32; 1025], left_1: &[u32; 1025]) -
     requires { ⌜ Sound lines (now gates) ⌝ }
     requires { ⌜ Left lines (gatesOf (now gates)) (now left_0) (now left_1) ⌝ }
     requires { ⌜ lines ≤ 12 ⌝ }
-    ensures { λ r. ⌜ (r .vector ≡ best lines (gatesOf (now (gates .entry))) (leftOf lines (gatesOf (now (gates .entry))) (now (left_0 .entry)) (now (left_1 .entry)))) ×
-        (r .caught ≡ score (gatesOf (now (gates .entry))) (leftOf lines (gatesOf (now (gates .entry))) (now (left_0 .entry)) (now (left_1 .entry))) (r .vector)) ⌝ }
+    ensures { λ r. ⌜ (r .vector ≡ best lines (gatesOf (now (gates .entry)))
+        (leftOf lines (gatesOf (now (gates .entry))) (now (left_0 .entry)) (now (left_1 .entry)))) ×
+        (r .caught ≡ score (gatesOf (now (gates .entry)))
+        (leftOf lines (gatesOf (now (gates .entry))) (now (left_0 .entry)) (now (left_1 .entry))) (r .vector)) ⌝ }
 {
     let end = 1u32 << lines;
     let mut vector = 0;
@@ -47,7 +49,8 @@ pub fn make(lines: u32, gates: &[u32], room: &mut [u32]) -> u32
     requires { ⌜ lines ≤ 12 ⌝ }
     requires { ⌜ bound lines (gatesOf (now gates)) ≤ length (now room) ⌝ }
     ensures { λ r. ⌜ (r ≡ length (compactSet lines (gatesOf (now (gates .entry))))) ×
-        (now (room .exit) ≡ compactSet lines (gatesOf (now (gates .entry))) ++ drop (length (compactSet lines (gatesOf (now (gates .entry))))) (now (room .entry))) ⌝ }
+        (now (room .exit) ≡ compactSet lines (gatesOf (now (gates .entry))) ++
+        drop (length (compactSet lines (gatesOf (now (gates .entry))))) (now (room .entry))) ⌝ }
 {
     let mut left_0 = all_sites(lines, gates);
     let mut left_1 = left_0;

@@ -1,4 +1,5 @@
-// The stuck-at faults that are still left: for each level a word of the lines whose stuck-at-0 fault is left, and one of those whose stuck-at-1 fault is.
+// The stuck-at faults that are still left.
+// For each level there is a word of the lines whose stuck-at-0 fault is left, and one of those whose stuck-at-1 fault is.
 ghost use mathlib.Core.Path.{_≡_};
 ghost use mathlib.Core.List.{[], _∷_};
 ghost use Prim.Native.Nat.{_<_, _^_};
@@ -39,11 +40,18 @@ fn newly(ones: u32, state: u32, at_0: u32, at_1: u32) -> u32
 }
 
 // How many faults that are left a vector catches, over all levels.
-pub fn score(lines: u32, gates: &[u32], left_0: &[u32; 1025], left_1: &[u32; 1025], vector: u32) -> u32
+pub fn score(
+    lines: u32,
+    gates: &[u32],
+    left_0: &[u32; 1025],
+    left_1: &[u32; 1025],
+    vector: u32,
+) -> u32
     requires { ⌜ Sound lines (now gates) ⌝ }
     requires { ⌜ Left lines (gatesOf (now gates)) (now left_0) (now left_1) ⌝ }
     requires { ⌜ vector < 2 ^ lines ⌝ }
-    ensures { λ r. ⌜ r ≡ score (gatesOf (now (gates .entry))) (leftOf lines (gatesOf (now (gates .entry))) (now (left_0 .entry)) (now (left_1 .entry))) vector ⌝ }
+    ensures { λ r. ⌜ r ≡ score (gatesOf (now (gates .entry)))
+        (leftOf lines (gatesOf (now (gates .entry))) (now (left_0 .entry)) (now (left_1 .entry))) vector ⌝ }
 {
     let ones = words::checked::all_ones(lines);
     let last = gates.len() / 3;
@@ -52,19 +60,29 @@ pub fn score(lines: u32, gates: &[u32], left_0: &[u32; 1025], left_1: &[u32; 102
     let mut i = 0;
     while i < last {
         sum += newly(ones, state, left_0[i], left_1[i]);
-        state = step(gate_at(gates, numbers::gate_after(numbers::level(i))), state);
+        state = step(
+            gate_at(gates, numbers::gate_after(numbers::level(i))),
+            state,
+        );
         i += 1;
     }
     sum + newly(ones, state, left_0[last], left_1[last])
 }
 
 // What a vector leaves: at each level the stuck-at-0 faults of lines that are 0, and the stuck-at-1 faults of lines that are 1.
-pub fn drop_caught(lines: u32, gates: &[u32], left_0: &mut [u32; 1025], left_1: &mut [u32; 1025], vector: u32)
+pub fn drop_caught(
+    lines: u32,
+    gates: &[u32],
+    left_0: &mut [u32; 1025],
+    left_1: &mut [u32; 1025],
+    vector: u32,
+)
     requires { ⌜ Sound lines (now gates) ⌝ }
     requires { ⌜ Left lines (gatesOf (now gates)) (now left_0) (now left_1) ⌝ }
     ensures { λ r. ⌜ Left lines (gatesOf (now (gates .entry))) (now (left_0 .exit)) (now (left_1 .exit)) ×
         (leftOf lines (gatesOf (now (gates .entry))) (now (left_0 .exit)) (now (left_1 .exit)) ≡
-        left (gatesOf (now (gates .entry))) (vector ∷ []) (leftOf lines (gatesOf (now (gates .entry))) (now (left_0 .entry)) (now (left_1 .entry)))) ⌝ }
+        left (gatesOf (now (gates .entry))) (vector ∷ [])
+        (leftOf lines (gatesOf (now (gates .entry))) (now (left_0 .entry)) (now (left_1 .entry)))) ⌝ }
 {
     let end = gates.len() / 3;
     let mut state = vector;
@@ -72,7 +90,10 @@ pub fn drop_caught(lines: u32, gates: &[u32], left_0: &mut [u32; 1025], left_1: 
     while i < end {
         left_0[i] = words::lacking(left_0[i], state);
         left_1[i] &= state;
-        state = step(gate_at(gates, numbers::gate_after(numbers::level(i))), state);
+        state = step(
+            gate_at(gates, numbers::gate_after(numbers::level(i))),
+            state,
+        );
         i += 1;
     }
     left_0[end] = words::lacking(left_0[end], state);

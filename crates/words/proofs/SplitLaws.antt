@@ -2,9 +2,8 @@
 use Prim.Native.Nat.{ℕ, _+_, _^_, _≤_, _<_}
 use mathlib.Core.Path.{_≡_, refl, sym, ap, ap₂, _∙_}
 use mathlib.Core.Bool.{Bool, true, false, _&&_, _||_}
-use native.Mathlib.Nat.{lt-of-lt-of-le, lt-of-le-of-lt}
+use native.Mathlib.Nat.{lt-of-le-of-lt}
 use native.Mathlib.Omega.{arith}
-use lib.Pow.{pow-mono}
 use lib.Bits.{bitAnd, bitOr, or-lt, and-le-l}
 use lib.ListN.{length}
 use lib.Dec.{eqb}
@@ -12,33 +11,26 @@ use borrow.Author.Tests.{eq-eqb, eqb-true}
 use Rattle.basics.specs.Lists.{upFrom, keep}
 use Rattle.basics.proofs.Tests.{bool-ext, and-true, and-both}
 use Rattle.basics.proofs.All.{all-of}
-use Rattle.basics.proofs.Lists.{keep-cong, keep-keep, keep-le, length-upFrom}
+use Rattle.basics.proofs.Lists.{keep-cong, keep-keep}
 use Rattle.basics.proofs.Kept.{keep-upFrom-cong}
 use Rattle.basics.proofs.KeptCounts.{kept-either}
 use Rattle.words.specs.Word.{bit, linesOn}
 use Rattle.words.specs.Inverse.{inverse}
 use Rattle.words.specs.WordOf.{lacking}
 use Rattle.words.proofs.Bits.{by-bit}
-use Rattle.words.proofs.Counts.{ones-lines-below}
+use Rattle.words.proofs.AndLaws.{lines-wide}
 use Rattle.words.proofs.Inverse.{inverse-lt, on-inverse}
 use Rattle.words.proofs.LoneLaws.{on-lacks}
 use Rattle.words.proofs.OrLaws.{on-or, on-and}
 
--- ---- how many lines are 1
+-- a word of n lines has no others
+pub length-wide : (n m w : ℕ) → n ≤ m → w < 2 ^ n → length (linesOn m w) ≡ length (linesOn n w)
+length-wide n m w le h = ap length (lines-wide n m w le h)
 
-pub lines-le : (n w : ℕ) → length (linesOn n w) ≤ n
-unfolding linesOn
-lines-le n w = omega (arith, keep-le (λ j. eqb (bit w j) 1) (upFrom 0 n), length-upFrom 0 n)
-
--- of a word of n lines no others are
-pub lines-wide : (n m w : ℕ) → n ≤ m → w < 2 ^ n → length (linesOn m w) ≡ length (linesOn n w)
-lines-wide n m w le h = let wide : 2 ^ n ≤ 2 ^ m = pow-mono le in sym (ones-lines-below m w (lt-of-lt-of-le h wide)) ∙ ones-lines-below n w h
-
--- ---- the lines of a mask that are 0 in a word
-
-pub on-lacking : (mask s j : ℕ) → eqb (bit (lacking mask s) j) 1 ≡ (eqb (bit mask j) 1 && eqb (bit s j) 0)
+-- the lines of a mask that are 0 in a word
+pub lacking-off : (mask s j : ℕ) → eqb (bit (lacking mask s) j) 1 ≡ (eqb (bit mask j) 1 && eqb (bit s j) 0)
 unfolding lacking
-on-lacking mask s j = on-lacks mask s j
+lacking-off mask s j = on-lacks mask s j
 
 -- ---- the two halves
 

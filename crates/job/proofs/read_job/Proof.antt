@@ -36,10 +36,14 @@ same-length-2 c = search needs
 
 returns-2 : tie.Need-returns-2
 returns-2 c =
-    let a = c .before .before .before .before .before .before .before .before .before .before .before .before .before .args in
+    let c4 = c .before .before .before .before in
+    let c7 = c4 .before .before .before in
+    let c9 = c7 .before .before in
+    let c13 = c9 .before .before .before .before in
+    let a = c13 .args in
     let rows = readRows (a .bytes .now) (length (a .gates .now)) (length (a .vectors .now)) in
-    let passed = ap found (sym (c .before .before .before .before .before .before .before .enum-told .given .1)) ∙ c .before .before .before .before .before .before .before .before .before .check-read .ensures in
-    let made = c .before .before .before .before .read-image .ensures in
+    let passed = ap found (sym (c7 .enum-told .given .1)) ∙ c9 .check-read .ensures in
+    let made = c4 .read-image .ensures in
     (ap toldRead (made .0) ∙ fine-all rows _ passed, (made .1 .0 ∙ after-fine rows _ _ passed, made .1 .1 ∙ after-fine rows _ _ passed))
 
 pub read-job-spec : {M : Type 1} → statement M

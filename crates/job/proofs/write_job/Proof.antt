@@ -22,8 +22,11 @@ enum-told c = search needs
 
 write-image-requires : tie.Need-write-image-requires
 write-image-requires c κs =
-    let a = c .before .before .before .before .before .before .before .args in
-    let ok = write-ok (a .lines) (a .classes) (a .gates .now) (a .vectors .now) (length (a .out .now)) (ap found (sym (c .before .enum-told .given .1)) ∙ c .before .before .before .check-write .ensures) in
+    let c3 = c .before .before .before in
+    let c7 = c3 .before .before .before .before in
+    let a = c7 .args in
+    let ok = write-ok (a .lines) (a .classes) (a .gates .now) (a .vectors .now) (length (a .out .now))
+    (ap found (sym (c .before .enum-told .given .1)) ∙ c3 .check-write .ensures) in
     ((ok .job .gates-fit, ok .job .vectors-fit), ok .bytes-room)
 
 returns : tie.Need-returns
@@ -38,10 +41,14 @@ same-length c = search needs
 
 returns-2 : tie.Need-returns-2
 returns-2 c =
-    let a = c .before .before .before .before .before .before .before .before .before .before .args in
+    let c2 = c .before .before in
+    let c4 = c2 .before .before in
+    let c6 = c4 .before .before in
+    let c10 = c6 .before .before .before .before in
+    let a = c10 .args in
     let rows = writeRows (a .lines) (a .classes) (a .gates .now) (a .vectors .now) (length (a .out .now)) in
-    let passed = ap found (sym (c .before .before .before .before .enum-told .given .1)) ∙ c .before .before .before .before .before .before .check-write .ensures in
-    let made = c .before .before .write-image .ensures in
+    let passed = ap found (sym (c4 .enum-told .given .1)) ∙ c6 .check-write .ensures in
+    let made = c2 .write-image .ensures in
     (ap (λ n. answered (n ∷ [])) (made .0) ∙ fine-all rows _ passed, made .1 ∙ after-fine rows _ _ passed)
 
 pub write-job-spec : {M : Type 1} → statement M

@@ -1,4 +1,5 @@
--- `testsets::backward_set` meets its contract: the check is the whole table, and what passes it is a sound circuit and a room that suffices. Assumes nothing.
+-- `testsets::backward_set` meets its contract: the check is the whole table, and what passes it is a sound circuit and a room that suffices.
+-- Assumes nothing.
 use mathlib.Core.Path.{ap, sym, _∙_}
 use lib.ListN.{length}
 use Rattle.refusals.specs.Checks.{found}
@@ -22,7 +23,8 @@ make-requires : tie.Need-make-requires
 make-requires c κs =
     let e = c .before in
     let a = e .before .before .before .before .before .args in
-    let ok = backward-ok (a .lines) (a .gates .now) (length (a .room .now)) (ap found (sym (e .enum-told .given .1)) ∙ e .before .before .check-backward .ensures) in
+    let ok = backward-ok (a .lines) (a .gates .now) (length (a .room .now))
+    (ap found (sym (e .enum-told .given .1)) ∙ e .before .before .check-backward .ensures) in
     (ok .circuit, ok .room-fits)
 
 returns : tie.Need-returns

@@ -1,4 +1,5 @@
--- `testsets::compact_set` meets its contract: the check is the whole table, and what passes it is a sound circuit of 12 lines at most and a room that suffices.
+-- `testsets::compact_set` meets its contract: the check is the whole table, and what passes it is a sound circuit
+-- of 12 lines at most and a room that suffices.
 -- Assumes nothing.
 use mathlib.Core.Path.{ap, sym, _∙_}
 use lib.ListN.{length}
@@ -23,7 +24,8 @@ make-requires : tie.Need-make-requires
 make-requires c κs =
     let e = c .before in
     let a = e .before .before .before .before .before .args in
-    let ok = compact-ok (a .lines) (a .gates .now) (length (a .room .now)) (ap found (sym (e .enum-told .given .1)) ∙ e .before .before .check-compact .ensures) in
+    let ok = compact-ok (a .lines) (a .gates .now) (length (a .room .now))
+    (ap found (sym (e .enum-told .given .1)) ∙ e .before .before .check-compact .ensures) in
     (ok .circuit, (ok .lines-few, ok .room-fits))
 
 returns : tie.Need-returns

@@ -11,7 +11,8 @@ use Rattle.job.proofs.bytes.put_words.Statement.{statement}
 use Rattle.job.proofs.bytes.put_words.Tie as tie
 
 abbrev Inv-loop : tie.InvT-loop
-Inv-loop out₀ at words i₀ out i = (i ≤ length words) × ((length out ≡ length out₀) × (sets out (at + 4 * i) (each (bytesOf 4) (drop i words)) ≡ sets out₀ at (each (bytesOf 4) words)))
+Inv-loop out₀ at words i₀ out i = (i ≤ length words)
+    × ((length out ≡ length out₀) × (sets out (at + 4 * i) (each (bytesOf 4) (drop i words)) ≡ sets out₀ at (each (bytesOf 4) words)))
 
 abbrev μ-loop : tie.MeasureT-loop
 μ-loop out₀ at words i₀ out i = length words - i

@@ -10,7 +10,8 @@ use Rattle.job.proofs.bytes.read_words.Statement.{statement}
 use Rattle.job.proofs.bytes.read_words.Tie as tie
 
 abbrev Inv-loop : tie.InvT-loop
-Inv-loop bytes at out₀ i₀ out i = (i ≤ length out₀) × ((length out ≡ length out₀) × (sets out i (wordsAt (length out₀ - i) bytes (at + 4 * i)) ≡ wordsAt (length out₀) bytes at))
+Inv-loop bytes at out₀ i₀ out i = (i ≤ length out₀)
+    × ((length out ≡ length out₀) × (sets out i (wordsAt (length out₀ - i) bytes (at + 4 * i)) ≡ wordsAt (length out₀) bytes at))
 
 abbrev μ-loop : tie.MeasureT-loop
 μ-loop bytes at out₀ i₀ out i = length out₀ - i
@@ -41,12 +42,14 @@ loop-less c = omega arith
 
 loop-again : tie.Need-loop-again Inv-loop μ-loop
 loop-again c =
-    let l = c .before .before in
+    let c2 = c .before .before in
+    let l = c2 in
     let a = l .before .before .before .args in (
       omega arith,
       (
         simp length-set (l .loop .inv .1 .0),
-        rw (c .number-at-4 .ensures) (words-read (l .loop .out) (a .bytes .now) (a .at) (l .loop .i) (length (a .out .now)) (omega arith) ∙ l .loop .inv .1 .1),
+        rw (c .number-at-4 .ensures) (words-read (l .loop .out) (a .bytes .now) (a .at) (l .loop .i) (length (a .out .now)) (omega arith)
+            ∙ l .loop .inv .1 .1),
       ),
     )
 

@@ -32,11 +32,17 @@ slice-relend-prefix-read-words c = omega arith
 
 slice-aggregate-read-words : tie.Need-slice-aggregate-read-words
 unfolding gatesIn vectorsIn
-slice-aggregate-read-words c = sym (length-take-le (3 * c .before .before .number-at-4 .result) (c .before .before .before .before .before .before .args .gates .now) (omega arith))
+slice-aggregate-read-words c =
+    let c2 = c .before .before in
+    let c6 = c2 .before .before .before .before in
+    sym (length-take-le (3 * c2 .number-at-4 .result) (c6 .args .gates .now) (omega arith))
 
 read-words-requires : tie.Need-read-words-requires
 unfolding gatesIn vectorsIn
-read-words-requires c κs = rw (length-take-le (3 * c .before .before .number-at-4 .result) (c .before .before .before .before .before .before .args .gates .now) (omega arith)) (omega arith)
+read-words-requires c κs =
+    let c2 = c .before .before in
+    let c6 = c2 .before .before .before .before in
+    rw (length-take-le (3 * c2 .number-at-4 .result) (c6 .args .gates .now) (omega arith)) (omega arith)
 
 mul-read-words : tie.Need-mul-read-words
 mul-read-words c = search needs
@@ -50,11 +56,17 @@ slice-relend-prefix-read-words-2 c = omega arith
 
 slice-aggregate-read-words-2 : tie.Need-slice-aggregate-read-words-2
 unfolding gatesIn vectorsIn
-slice-aggregate-read-words-2 c = sym (length-take-le (c .before .before .before .before .before .number-at-42 .result) (c .before .before .before .before .before .before .before .before .before .before .args .vectors .now) (omega arith))
+slice-aggregate-read-words-2 c =
+    let c5 = c .before .before .before .before .before in
+    let c10 = c5 .before .before .before .before .before in
+    sym (length-take-le (c5 .number-at-42 .result) (c10 .args .vectors .now) (omega arith))
 
 read-words-requires-2 : tie.Need-read-words-requires-2
 unfolding gatesIn vectorsIn
-read-words-requires-2 c κs = rw (length-take-le (c .before .before .before .before .before .number-at-42 .result) (c .before .before .before .before .before .before .before .before .before .before .args .vectors .now) (omega arith)) (omega arith)
+read-words-requires-2 c κs =
+    let c5 = c .before .before .before .before .before in
+    let c10 = c5 .before .before .before .before .before in
+    rw (length-take-le (c5 .number-at-42 .result) (c10 .args .vectors .now) (omega arith)) (omega arith)
 
 same-length : tie.Need-same-length
 same-length c = search needs
@@ -65,13 +77,19 @@ same-length-2 c = search needs
 returns : tie.Need-returns
 unfolding gatesIn vectorsIn
 returns c =
-    let a = c .before .before .before .before .before .before .before .before .before .before .before .before .before .args in
-    let d = c .before .before .before .before .before .before .before .before .before .number-at-4 in
-    let m = c .before .before .before .before .before .before .before .before .number-at-42 in
+    let c2 = c .before .before in
+    let c6 = c2 .before .before .before .before in
+    let c8 = c6 .before .before in
+    let c9 = c8 .before in
+    let c13 = c9 .before .before .before .before in
+    let a = c13 .args in
+    let d = c9 .number-at-4 in
+    let m = c8 .number-at-42 in
     let k = length-take-le (3 * d .result) (a .gates .now) (omega arith) in
     let l = length-take-le (m .result) (a .vectors .now) (omega arith) in (
-      ap₂ _++_ (c .before .before .before .before .before .before .read-words .ensures ∙ gate-words (a .image .now) _ (omega arith)) (ap (λ i. drop (3 * i) (a .gates .now)) (d .ensures)),
-      ap₂ _++_ (c .before .before .read-words2 .ensures ∙ vector-words (a .image .now) _ _ (omega arith) (omega arith)) (ap (λ i. drop i (a .vectors .now)) (m .ensures)),
+      ap₂ _++_ (c6 .read-words .ensures ∙ gate-words (a .image .now) _ (omega arith)) (ap (λ i. drop (3 * i) (a .gates .now)) (d .ensures)),
+      ap₂ _++_ (c2 .read-words2 .ensures ∙ vector-words (a .image .now) _ _ (omega arith) (omega arith))
+          (ap (λ i. drop i (a .vectors .now)) (m .ensures)),
     )
 
 pub read-lists-spec : {M : Type 1} → statement M

@@ -19,7 +19,10 @@ number-at-2-requires-2 c κs = search needs
 
 returns-2 : tie.Need-returns-2
 unfolding classesIn
-returns-2 c = rw (← c .before .before .before .number-at-2 .ensures, ← c .before .before .bad-classes .ensures, c .before .if1 .left, c .number-at-22 .ensures)
+returns-2 c =
+    let c2 = c .before .before in
+    let c3 = c2 .before in
+    rw (← c3 .number-at-2 .ensures, ← c2 .bad-classes .ensures, c .before .if1 .left, c .number-at-22 .ensures)
 
 pub bad-classes-in-spec : {M : Type 1} → statement M
 bad-classes-in-spec =

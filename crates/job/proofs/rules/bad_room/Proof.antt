@@ -24,11 +24,19 @@ cast-vectors-in c = search needs
 
 returns : tie.Need-returns
 unfolding badRoom gatesIn vectorsIn
-returns c = let g = c .before .before .number-at-4 .ensures in rw (← g, lt-ltb (c .before .before .before .before .args .words) (3 * c .before .before .number-at-4 .result) (c .if1 .taken))
+returns c =
+    let c2 = c .before .before in
+    let c4 = c2 .before .before in
+    let g = c2 .number-at-4 .ensures in
+    rw (← g, lt-ltb (c4 .args .words) (3 * c2 .number-at-4 .result) (c .if1 .taken))
 
 returns-2 : tie.Need-returns-2
 unfolding badRoom gatesIn vectorsIn
-returns-2 c = let g = c .before .before .number-at-4 .ensures in rw (← g, ← c .before .number-at-42 .ensures, le-ltb (c .before .before .before .before .args .words) (3 * c .before .before .number-at-4 .result) (c .if1 .left))
+returns-2 c =
+    let c2 = c .before .before in
+    let c4 = c2 .before .before in
+    let g = c2 .number-at-4 .ensures in
+    rw (← g, ← c .before .number-at-42 .ensures, le-ltb (c4 .args .words) (3 * c2 .number-at-4 .result) (c .if1 .left))
 
 pub bad-room-spec : {M : Type 1} → statement M
 bad-room-spec =

@@ -15,13 +15,19 @@ first-bad-vector-requires : tie.Need-first-bad-vector-requires
 first-bad-vector-requires c κs = search needs
 
 cast-unless : tie.Need-cast-unless
-cast-unless c = let a = c .before .before .before .before .args in omega (arith, c .before .first-bad-gate .ensures, first-bad-le (a .lines) (a .gates .now))
+cast-unless c =
+    let c4 = c .before .before .before .before in
+    let a = c4 .args in
+    omega (arith, c .before .first-bad-gate .ensures, first-bad-le (a .lines) (a .gates .now))
 
 unless-requires : tie.Need-unless-requires
 unless-requires c κs = search needs
 
 cast-unless-2 : tie.Need-cast-unless-2
-cast-unless-2 c = let a = c .before .before .before .before .before .args in omega (arith, c .before .first-bad-vector .ensures, first-vector-le (a .lines) (a .vectors .now))
+cast-unless-2 c =
+    let c5 = c .before .before .before .before .before in
+    let a = c5 .args in
+    omega (arith, c .before .first-bad-vector .ensures, first-vector-le (a .lines) (a .vectors .now))
 
 unless-requires-2 : tie.Need-unless-requires-2
 unless-requires-2 c κs = search needs
@@ -31,12 +37,16 @@ sooner-requires c κs = search needs
 
 returns : tie.Need-returns
 returns c =
-    let gate = c .before .before .before .before .first-bad-gate in
-    let vector = c .before .before .before .first-bad-vector in
-    let rule-7 = c .before .before .unless in
+    let c2 = c .before .before in
+    let c3 = c2 .before in
+    let c4 = c3 .before in
+    let gate = c4 .first-bad-gate in
+    let vector = c3 .first-bad-vector in
+    let rule-7 = c2 .unless in
     let rule-8 = c .before .unless2 in
     ap found (c .sooner .ensures)
-    ∙ content-rows _ _ _ (gate .result) (vector .result) (rule-7 .result) (rule-8 .result) (gate .ensures) (vector .ensures) (rule-7 .ensures) (rule-8 .ensures)
+    ∙ content-rows _ _ _ (gate .result) (vector .result) (rule-7 .result) (rule-8 .result) (gate .ensures) (vector .ensures) (rule-7 .ensures)
+    (rule-8 .ensures)
 
 pub check-content-spec : {M : Type 1} → statement M
 check-content-spec =

@@ -32,9 +32,14 @@ sooner-requires c κs = search needs
 
 returns-2 : tie.Need-returns-2
 returns-2 c =
+    let c2 = c .before .before in
+    let c3 = c2 .before in
+    let c4 = c3 .before in
+    let c6 = c4 .before .before in
     ap found (c .sooner .ensures)
-    ∙ read-rest _ _ _ (c .before .before .bad-room .result) (c .before .before .before .check-words .result) (c .before .unless .result)
-    (ap found (sym (c .before .before .before .before .enum-told .given .1)) ∙ c .before .before .before .before .before .before .check-header .ensures) (c .before .before .before .check-words .ensures) (c .before .before .bad-room .ensures) (c .before .unless .ensures)
+    ∙ read-rest _ _ _ (c2 .bad-room .result) (c3 .check-words .result) (c .before .unless .result)
+    (ap found (sym (c4 .enum-told .given .1)) ∙ c6 .check-header .ensures) (c3 .check-words .ensures) (c2 .bad-room .ensures)
+    (c .before .unless .ensures)
 
 pub check-read-spec : {M : Type 1} → statement M
 check-read-spec =

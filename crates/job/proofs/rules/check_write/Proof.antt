@@ -19,18 +19,33 @@ bad-classes-requires : tie.Need-bad-classes-requires
 bad-classes-requires c κs = search needs
 
 returns-2 : tie.Need-returns-2
-returns-2 c = write-classes _ _ _ _ _ (sym (c .before .before .before .bad-lines .ensures) ∙ c .before .before .if1 .left) (sym (c .before .bad-classes .ensures) ∙ c .if2 .taken)
+returns-2 c =
+    let c2 = c .before .before in
+    let c3 = c2 .before in
+    write-classes _ _ _ _ _ (sym (c3 .bad-lines .ensures) ∙ c2 .if1 .left) (sym (c .before .bad-classes .ensures) ∙ c .if2 .taken)
 
 bad-counts-requires : tie.Need-bad-counts-requires
 bad-counts-requires c κs = search needs
 
 returns-3 : tie.Need-returns-3
-returns-3 c = write-counts _ _ _ _ _ (sym (c .before .before .before .before .before .bad-lines .ensures) ∙ c .before .before .before .before .if1 .left) (sym (c .before .before .before .bad-classes .ensures) ∙ c .before .before .if2 .left) (sym (c .before .bad-counts .ensures) ∙ c .if3 .taken)
+returns-3 c =
+    let c2 = c .before .before in
+    let c3 = c2 .before in
+    let c4 = c3 .before in
+    let c5 = c4 .before in
+    write-counts _ _ _ _ _ (sym (c5 .bad-lines .ensures) ∙ c4 .if1 .left) (sym (c3 .bad-classes .ensures) ∙ c2 .if2 .left)
+    (sym (c .before .bad-counts .ensures) ∙ c .if3 .taken)
 
 check-content-requires : tie.Need-check-content-requires
 check-content-requires c κs =
-    let a = c .before .before .before .before .before .before .before .before .args in
-    (lines-right (a .lines) (sym (c .before .before .before .before .before .bad-lines .ensures) ∙ c .before .before .before .before .if1 .left) .1, counts-right (length (a .gates .now) / 3) (length (a .vectors .now)) (sym (c .before .bad-counts .ensures) ∙ c .if3 .left))
+    let c4 = c .before .before .before .before in
+    let c5 = c4 .before in
+    let c8 = c5 .before .before .before in
+    let a = c8 .args in (
+      lines-right (a .lines) (sym (c5 .bad-lines .ensures) ∙ c4 .if1 .left) .1,
+      counts-right (length (a .gates .now) / 3)
+          (length (a .vectors .now)) (sym (c .before .bad-counts .ensures) ∙ c .if3 .left),
+    )
 
 mul-fits : tie.Need-mul-fits
 mul-fits c = search needs
@@ -43,8 +58,10 @@ mul-fits-2 c = search needs
 
 add-fits-2 : tie.Need-add-fits-2
 add-fits-2 c =
-    let a = c .before .before .before .before .before .before .before .before .before .args in
-    let counts = counts-right (length (a .gates .now) / 3) (length (a .vectors .now)) (sym (c .before .before .bad-counts .ensures) ∙ c .before .if3 .left) in
+    let c2 = c .before .before in
+    let c9 = c2 .before .before .before .before .before .before .before in
+    let a = c9 .args in
+    let counts = counts-right (length (a .gates .now) / 3) (length (a .vectors .now)) (sym (c2 .bad-counts .ensures) ∙ c .before .if3 .left) in
     omega arith
 
 unless-requires : tie.Need-unless-requires
@@ -55,9 +72,17 @@ sooner-requires c κs = search needs
 
 returns-4 : tie.Need-returns-4
 returns-4 c =
+    let c2 = c .before .before in
+    let c3 = c2 .before in
+    let c4 = c3 .before in
+    let c5 = c4 .before in
+    let c6 = c5 .before in
+    let c7 = c6 .before in
+    let c8 = c7 .before in
     ap found (c .sooner .ensures)
-    ∙ write-rest _ _ _ _ _ (c .before .before .check-content .result) (c .before .unless .result) (sym (c .before .before .before .before .before .before .before .before .bad-lines .ensures) ∙ c .before .before .before .before .before .before .before .if1 .left) (sym (c .before .before .before .before .before .before .bad-classes .ensures) ∙ c .before .before .before .before .before .if2 .left) (sym (c .before .before .before .before .bad-counts .ensures) ∙ c .before .before .before .if3 .left)
-    (c .before .before .check-content .ensures) (c .before .unless .ensures)
+    ∙ write-rest _ _ _ _ _ (c2 .check-content .result) (c .before .unless .result) (sym (c8 .bad-lines .ensures) ∙ c7 .if1 .left)
+    (sym (c6 .bad-classes .ensures) ∙ c5 .if2 .left) (sym (c4 .bad-counts .ensures) ∙ c3 .if3 .left)
+    (c2 .check-content .ensures) (c .before .unless .ensures)
 
 pub check-write-spec : {M : Type 1} → statement M
 check-write-spec =

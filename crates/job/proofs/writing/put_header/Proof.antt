@@ -16,23 +16,17 @@ put-2-requires-3 c κs = search needs
 put-2-requires-4 : tie.Need-put-2-requires-4
 put-2-requires-4 c κs = search needs
 
-mul-t16 : tie.Need-mul-t16
-mul-t16 c = search needs
+mul-past-gates : tie.Need-mul-past-gates
+mul-past-gates c = search needs
 
-add-t17 : tie.Need-add-t17
-add-t17 c = search needs
+add-past-gates : tie.Need-add-past-gates
+add-past-gates c = search needs
 
-mul-t18 : tie.Need-mul-t18
-mul-t18 c = search needs
+mul-t17 : tie.Need-mul-t17
+mul-t17 c = search needs
 
-add-t19 : tie.Need-add-t19
-add-t19 c = search needs
-
-mul-t20 : tie.Need-mul-t20
-mul-t20 c = search needs
-
-add-t21 : tie.Need-add-t21
-add-t21 c = search needs
+add-t18 : tie.Need-add-t18
+add-t18 c = search needs
 
 slice-aggregate-put-words : tie.Need-slice-aggregate-put-words
 slice-aggregate-put-words c = search needs
@@ -45,7 +39,12 @@ same-length c = search needs
 
 returns : tie.Need-returns
 returns c =
-    rw (c .before .before .put-words .ensures, c .before .before .before .before .before .before .before .put-24 .ensures, c .before .before .before .before .before .before .before .before .before .before .before .put-23 .ensures, c .before .before .before .before .before .before .before .before .before .before .before .before .before .before .before .put-22 .ensures, c .before .before .before .before .before .before .before .before .before .before .before .before .before .before .before .before .before .before .before .put-2 .ensures)
+    let c2 = c .before .before in
+    let c7 = c2 .before .before .before .before .before in
+    let c7 = c7 in
+    let c11 = c7 .before .before .before .before in
+    let c15 = c11 .before .before .before .before in
+    rw (c2 .put-words .ensures, c7 .put-24 .ensures, c11 .put-23 .ensures, c15 .put-22 .ensures, c15 .before .before .before .before .put-2 .ensures)
     (put-header _ _ _ _ _)
 
 pub put-header-spec : {M : Type 1} → statement M
@@ -56,12 +55,10 @@ put-header-spec =
     put-2-requires-2
     put-2-requires-3
     put-2-requires-4
-    mul-t16
-    add-t17
-    mul-t18
-    add-t19
-    mul-t20
-    add-t21
+    mul-past-gates
+    add-past-gates
+    mul-t17
+    add-t18
     slice-aggregate-put-words
     put-words-requires
     same-length

@@ -16,11 +16,18 @@ cast-put-header-2 c = search needs
 
 put-header-requires : tie.Need-put-header-requires
 unfolding gateCount
-put-header-requires c κs = let a = c .before .before .before .before .args in omega (arith, length-image (a .lines) (a .classes) (a .gates .now) (a .vectors .now))
+put-header-requires c κs =
+    let c4 = c .before .before .before .before in
+    let a = c4 .args in
+    omega (arith, length-image (a .lines) (a .classes) (a .gates .now) (a .vectors .now))
 
 put-words-requires : tie.Need-put-words-requires
 unfolding gateCount
-put-words-requires c κs = let a = c .before .before .before .before .before .before .before .before .args in omega (arith, length-image (a .lines) (a .classes) (a .gates .now) (a .vectors .now), c .before .before .before .put-header .kept .0)
+put-words-requires c κs =
+    let c3 = c .before .before .before in
+    let c8 = c3 .before .before .before .before .before in
+    let a = c8 .args in
+    omega (arith, length-image (a .lines) (a .classes) (a .gates .now) (a .vectors .now), c3 .put-header .kept .0)
 
 mul-put-words : tie.Need-mul-put-words
 mul-put-words c = search needs
@@ -30,7 +37,12 @@ add-put-words c = search needs
 
 put-words-requires-2 : tie.Need-put-words-requires-2
 unfolding gateCount
-put-words-requires-2 c κs = let a = c .before .before .before .before .before .before .before .before .before .before .before .before .args in omega (arith, length-image (a .lines) (a .classes) (a .gates .now) (a .vectors .now), c .before .before .before .before .before .before .before .put-header .kept .0, c .before .before .before .put-words .kept .0)
+put-words-requires-2 c κs =
+    let c3 = c .before .before .before in
+    let c7 = c3 .before .before .before .before in
+    let c12 = c7 .before .before .before .before .before in
+    let a = c12 .args in
+    omega (arith, length-image (a .lines) (a .classes) (a .gates .now) (a .vectors .now), c7 .put-header .kept .0, c3 .put-words .kept .0)
 
 mul-result : tie.Need-mul-result
 mul-result c = search needs
@@ -46,7 +58,9 @@ add-result-2 c = search needs
 
 cast-result : tie.Need-cast-result
 unfolding gateCount
-cast-result c = omega (arith, c .before .before .before .before .before .before .before .before .before .before .before .before .before .before .before .pre)
+cast-result c =
+    let c15 = c .before .before .before .before .before .before .before .before .before .before .before .before .before .before .before in
+    omega (arith, c15 .pre)
 
 same-length : tie.Need-same-length
 same-length c = search needs
@@ -54,10 +68,14 @@ same-length c = search needs
 returns : tie.Need-returns
 unfolding gateCount
 returns c =
-    let a = c .before .before .before .before .before .before .before .before .before .before .before .before .before .before .before .args in (
+    let c2 = c .before .before in
+    let c6 = c2 .before .before .before .before in
+    let c10 = c6 .before .before .before .before in
+    let c15 = c10 .before .before .before .before .before in
+    let a = c15 .args in (
       sym (length-image (a .lines) (a .classes) (a .gates .now) (a .vectors .now)),
-      rw (c .before .before .put-words2 .ensures, c .before .before .before .before .before .before .put-words .ensures, c .before .before .before .before .before .before .before .before .before .before .put-header .ensures)
-          (put-image (a .out .now) (a .lines) (a .classes) (a .gates .now) (a .vectors .now) (c .before .before .before .before .before .before .before .before .before .before .before .before .before .before .before .pre .1)),
+      rw (c2 .put-words2 .ensures, c6 .put-words .ensures, c10 .put-header .ensures)
+          (put-image (a .out .now) (a .lines) (a .classes) (a .gates .now) (a .vectors .now) (c15 .pre .1)),
     )
 
 pub write-image-spec : {M : Type 1} → statement M

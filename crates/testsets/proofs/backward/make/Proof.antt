@@ -1,4 +1,5 @@
--- `testsets::backward::make` meets its contract: after i turns the room begins with the first i + 2 vectors of the set, and the state is that of all zeros at level i.
+-- `testsets::backward::make` meets its contract: after i turns the room begins with the first i + 2 vectors of the set,
+-- and the state is that of all zeros at level i.
 -- Assumes nothing.
 use Rattle.circuit.proofs.GateLaws.{gates-count}
 use Rattle.circuit.proofs.RuleLaws.{target-fits}
@@ -37,8 +38,13 @@ slice-write-room-2 c = let a = c .before .before .before .args in omega (arith, 
 loop-holds : tie.Need-loop-holds Inv-loop μ-loop
 loop-holds c =
     let a = c .before .before .before .args in
-    let wide : length (gatesOf (a .gates .now)) + 2 ≤ length (a .room .now) = search needs in
-    (sym (gates-count _), (search needs, (sym (forward-none _ 0), (refl, backward-begin (a .lines) (gatesOf (a .gates .now)) _ (c .all-ones .ensures) (a .room .now) wide))))
+    let wide : length (gatesOf (a .gates .now)) + 2 ≤ length (a .room .now) = search needs in (
+      sym (gates-count _),
+      (
+        search needs,
+        (sym (forward-none _ 0), (refl, backward-begin (a .lines) (gatesOf (a .gates .now)) _ (c .all-ones .ensures) (a .room .now) wide)),
+      ),
+    )
 
 level-requires : tie.Need-level-requires Inv-loop μ-loop
 level-requires c κs = search needs
@@ -87,7 +93,8 @@ loop-again c =
     let ones = l .before .all-ones .result in
     let start = set (set (a .room .now) 0 0) 1 ones in
     let gate = c .before .before .before .gate-at .ensures in
-    let up = c .before .before .step .ensures ∙ next-level gs (l .loop .i) 0 (l .loop .state) _ _ (omega arith) (l .loop .inv .1 .1 .0) (omega arith) gate in
+    let up = c .before .before .step .ensures ∙ next-level gs (l .loop .i) 0 (l .loop .state) _ _ (omega arith) (l .loop .inv .1 .1 .0)
+    (omega arith) gate in
     let wide : length gs + 2 ≤ length start = omega (arith, length-set (a .room .now) 0 0, length-set (set (a .room .now) 0 0) 1 ones) in
     let turn = backward-turn (a .lines) gs ones (l .before .all-ones .ensures) start wide (l .loop .room) (l .loop .i) in (
       l .loop .inv .0,

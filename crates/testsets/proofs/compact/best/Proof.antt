@@ -1,4 +1,5 @@
--- `testsets::compact::best` meets its contract: each turn asks one input more, and takes it only where it catches more than the best before. Assumes nothing.
+-- `testsets::compact::best` meets its contract: each turn asks one input more, and takes it only where it catches more than the best before.
+-- Assumes nothing.
 use Prim.Native.Nat.{ℕ, _+_, _-_, _^_, _≤_, _<_}
 use mathlib.Core.Path.{_≡_, sym, ap, _∙_}
 use mathlib.Core.Logic.{⊎-elim}
@@ -54,16 +55,23 @@ loop-again c =
     let asked = c .before .score2 .ensures in
     let before = l .loop .inv .1 .1 .0 in
     let less : next < 2 ^ a .lines = omega arith in
-    let from : ℕ → ℕ = λ v. bestOf gs fs v (upFrom (next + 1) (2 ^ a .lines - (next + 1))) in
-    (l .loop .inv .0, (omega arith, ⊎-elim
-    (λ w. (
-      w .2 ∙ asked ∙ ap (score gs fs) (sym (w .1)),
-      l .loop .inv .1 .1 .1 ∙ best-higher gs fs (l .loop .vector) next (2 ^ a .lines) less (rw (← before, ← asked) (w .0 .taken)) ∙ ap from (sym (w .1)),
-    ))
-    (λ w. (
-      w .2 ∙ before ∙ ap (score gs fs) (sym (w .1)),
-      l .loop .inv .1 .1 .1 ∙ best-kept gs fs (l .loop .vector) next (2 ^ a .lines) less (rw (← before, ← asked) (w .0 .left)) ∙ ap from (sym (w .1)),
-    )) (c .if1 .came)))
+    let from : ℕ → ℕ = λ v. bestOf gs fs v (upFrom (next + 1) (2 ^ a .lines - (next + 1))) in (
+      l .loop .inv .0,
+      (
+        omega arith,
+        ⊎-elim
+            (λ w. (
+              w .2 ∙ asked ∙ ap (score gs fs) (sym (w .1)),
+              l .loop .inv .1 .1 .1 ∙ best-higher gs fs (l .loop .vector) next (2 ^ a .lines) less (rw (← before, ← asked) (w .0 .taken))
+                  ∙ ap from (sym (w .1)),
+            ))
+            (λ w. (
+              w .2 ∙ before ∙ ap (score gs fs) (sym (w .1)),
+              l .loop .inv .1 .1 .1 ∙ best-kept gs fs (l .loop .vector) next (2 ^ a .lines) less (rw (← before, ← asked) (w .0 .left))
+                  ∙ ap from (sym (w .1)),
+            )) (c .if1 .came),
+      ),
+    )
 
 returns : tie.Need-returns Inv-loop μ-loop
 returns c =

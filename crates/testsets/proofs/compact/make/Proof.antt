@@ -10,12 +10,14 @@ use native.Mathlib.Omega.{arith}
 use borrow.Author.Needs.{needs}
 use Rattle.circuit.specs.Gates.{gatesOf}
 use Rattle.circuit.specs.Sound.{Sound}
-use Rattle.testsets.proofs.PickTurns.{Picking, picking-begin, picking-place, picking-catches, picking-turn, picking-end, picking-done, picking-long, picking-count, bound-fits}
+use Rattle.testsets.proofs.PickTurns.{Picking, picking-begin, picking-place, picking-catches, picking-turn, picking-end, picking-done}
+use Rattle.testsets.proofs.PickTurns.{picking-long, picking-count, bound-fits}
 use Rattle.testsets.proofs.compact.make.Statement.{statement}
 use Rattle.testsets.proofs.compact.make.Tie as tie
 
 abbrev Inv-loop : tie.InvT-loop
-Inv-loop lines gates room₀ left-0₀ left-1₀ left₀ count₀ room left-0 left-1 left count = Picking lines (gatesOf gates) room₀ room left-0 left-1 left count
+Inv-loop lines gates room₀ left-0₀ left-1₀ left₀ count₀ room left-0 left-1 left count =
+    Picking lines (gatesOf gates) room₀ room left-0 left-1 left count
 
 abbrev μ-loop : tie.MeasureT-loop
 μ-loop lines gates room₀ left-0₀ left-1₀ left₀ count₀ room left-0 left-1 left count = left
@@ -35,7 +37,8 @@ mul-left c =
 loop-holds : tie.Need-loop-holds Inv-loop μ-loop
 loop-holds c =
     let a = c .before .before .before .before .args in
-    picking-begin (a .lines) (gatesOf (a .gates .now)) (a .room .now) (c .before .all-sites .result) _ (c .before .all-sites .ensures) (ap (λ s. 2 * s) (c .site-count .ensures))
+    picking-begin (a .lines) (gatesOf (a .gates .now)) (a .room .now) (c .before .all-sites .result) _ (c .before .all-sites .ensures)
+    (ap (λ s. 2 * s) (c .site-count .ensures))
 
 best-requires : tie.Need-best-requires Inv-loop μ-loop
 best-requires c κs =
@@ -58,7 +61,12 @@ slice-write-room c =
     let some : 0 < l .loop .left = omega arith in
     let ok : Sound (a .lines) (a .gates .now) = search needs in
     let wide : bound (a .lines) gs ≤ length (a .room .now) = search needs in
-    omega (arith, picking-place (a .lines) gs (ok .gates-ok) _ _ _ _ _ _ (l .loop .inv) some, compact-few (a .lines) gs (ok .gates-ok), picking-long (a .lines) gs (ok .gates-ok) _ _ _ _ _ _ (l .loop .inv) wide)
+    omega (
+      arith,
+      picking-place (a .lines) gs (ok .gates-ok) _ _ _ _ _ _ (l .loop .inv) some,
+      compact-few (a .lines) gs (ok .gates-ok),
+      picking-long (a .lines) gs (ok .gates-ok) _ _ _ _ _ _ (l .loop .inv) wide,
+    )
 
 drop-caught-requires : tie.Need-drop-caught-requires Inv-loop μ-loop
 drop-caught-requires c κs =
@@ -104,7 +112,8 @@ loop-again c =
     let ok : Sound (a .lines) (a .gates .now) = search needs in
     let b = c .before .before .before .before in
     let d = c .before .drop-caught in
-    picking-turn (a .lines) gs (ok .gates-ok) _ _ _ _ _ _ (l .loop .inv) some _ _ _ _ (b .best .ensures .0) (b .best .ensures .1) (d .ensures .0) (d .ensures .1) wide
+    picking-turn (a .lines) gs (ok .gates-ok) _ _ _ _ _ _ (l .loop .inv) some _ _ _ _ (b .best .ensures .0) (b .best .ensures .1) (d .ensures .0)
+    (d .ensures .1) wide
 
 cast-result : tie.Need-cast-result Inv-loop μ-loop
 cast-result c =
@@ -128,8 +137,10 @@ returns c =
     let l = c .before in
     let a = l .before .before .before .before .before .args in
     let gs = gatesOf (a .gates .now) in
-    let ok : Sound (a .lines) (a .gates .now) = search needs in
-    (picking-end (a .lines) gs (ok .gates-ok) _ _ _ _ _ _ (l .loop .inv) (omega arith), picking-done (a .lines) gs (ok .gates-ok) _ _ _ _ _ _ (l .loop .inv) (omega arith))
+    let ok : Sound (a .lines) (a .gates .now) = search needs in (
+      picking-end (a .lines) gs (ok .gates-ok) _ _ _ _ _ _ (l .loop .inv) (omega arith),
+      picking-done (a .lines) gs (ok .gates-ok) _ _ _ _ _ _ (l .loop .inv) (omega arith),
+    )
 
 pub make-spec : {M : Type 1} → statement M
 make-spec =

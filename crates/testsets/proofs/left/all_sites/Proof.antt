@@ -12,7 +12,9 @@ use Rattle.testsets.proofs.left.all_sites.Statement.{statement}
 use Rattle.testsets.proofs.left.all_sites.Tie as tie
 
 abbrev Inv-loop : tie.InvT-loop
-Inv-loop lines gates end left₀ i₀ left i = (end ≡ length (gatesOf gates) + 1) × ((i ≤ end) × ((length left ≡ 1025) × Changed (λ k w. sites lines (gatesOf gates) k) i left₀ left))
+Inv-loop lines gates end left₀ i₀ left i =
+    (end ≡ length (gatesOf gates) + 1) × ((i ≤ end)
+    × ((length left ≡ 1025) × Changed (λ k w. sites lines (gatesOf gates) k) i left₀ left))
 
 abbrev μ-loop : tie.MeasureT-loop
 μ-loop lines gates end left₀ i₀ left i = end - i
@@ -49,7 +51,13 @@ loop-again c =
     let i = l .loop .i in
     let w = c .sites-at .result in (
       l .loop .inv .0,
-      (omega arith, (length-set (l .loop .left) i w ∙ l .loop .inv .1 .1 .0, changed-more _ _ (l .loop .left) i w (omega arith) (l .loop .inv .1 .1 .1) (c .sites-at .ensures))),
+      (
+        omega arith,
+        (
+          length-set (l .loop .left) i w ∙ l .loop .inv .1 .1 .0,
+          changed-more _ _ (l .loop .left) i w (omega arith) (l .loop .inv .1 .1 .1) (c .sites-at .ensures),
+        ),
+      ),
     )
 
 returns : tie.Need-returns Inv-loop μ-loop

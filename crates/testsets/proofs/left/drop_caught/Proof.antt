@@ -30,8 +30,10 @@ abbrev μ-loop : tie.MeasureT-loop
 
 loop-holds : tie.Need-loop-holds Inv-loop μ-loop
 loop-holds c =
-    let a = c .before .args in
-    (sym (gates-count (a .gates .now)), (omega arith, (sym (forward-none (gatesOf (a .gates .now)) (a .vector)), ((refl, changed-none _ _), (refl, changed-none _ _)))))
+    let a = c .before .args in (
+      sym (gates-count (a .gates .now)),
+      (omega arith, (sym (forward-none (gatesOf (a .gates .now)) (a .vector)), ((refl, changed-none _ _), (refl, changed-none _ _)))),
+    )
 
 mul-lacking : tie.Need-mul-lacking Inv-loop μ-loop
 mul-lacking c = omega arith
@@ -151,7 +153,8 @@ returns c =
     let last : suc (length gs) ≡ i + 1 = omega arith in
     let all0 = changed-last _ (a .left-0 .now) (l .loop .left-0) i e (suc (length gs)) _ same last long0 (zeros .1) word0 in
     let all1 = changed-last _ (a .left-1 .now) (l .loop .left-1) i e (suc (length gs)) _ same last long1 (ones .1) word1 in (
-      still-left (a .lines) gs (ok .gates-ok) (a .left-0 .now) (a .left-1 .now) (a .vector) _ _ all0 all1 on (length-set (l .loop .left-0) e _ ∙ zeros .0) (length-set (l .loop .left-1) e _ ∙ ones .0),
+      still-left (a .lines) gs (ok .gates-ok) (a .left-0 .now) (a .left-1 .now) (a .vector) _ _ all0 all1 on
+          (length-set (l .loop .left-0) e _ ∙ zeros .0) (length-set (l .loop .left-1) e _ ∙ ones .0),
       left-dropped (a .lines) gs (ok .gates-ok) (a .left-0 .now) (a .left-1 .now) (a .vector) _ _ all0 all1,
     )
 

@@ -12,7 +12,7 @@ use Rattle.circuit.specs.Runs.{forward}
 use Rattle.circuit.proofs.GateLaws.{gates-count}
 use Rattle.circuit.proofs.RuleLaws.{target-fits}
 use Rattle.circuit.proofs.RunLaws.{forward-none}
-use Rattle.words.proofs.SplitLaws.{lines-le}
+use Rattle.words.proofs.AndLaws.{length-lines-le}
 use Rattle.testsets.specs.Sets.{score}
 use Rattle.testsets.proofs.Levels.{next-level}
 use Rattle.testsets.proofs.left.score.Statement.{statement}
@@ -55,7 +55,7 @@ newly-requires c κs = search needs
 
 add-sum : tie.Need-add-sum Inv-loop μ-loop
 add-sum c =
-    let few : c .newly .result ≤ 32 = rw (c .newly .ensures) (lines-le 32 _) in
+    let few : c .newly .result ≤ 32 = rw (c .newly .ensures) (length-lines-le 32 _) in
     omega arith
 
 level-requires : tie.Need-level-requires Inv-loop μ-loop
@@ -86,10 +86,11 @@ loop-again c =
     let gs = gatesOf (a .gates .now) in
     let n = c .before .before .before .before in
     let ok : Sound (a .lines) (a .gates .now) = search needs in
-    let few : n .newly .result ≤ 32 = rw (n .newly .ensures) (lines-le 32 _) in
+    let few : n .newly .result ≤ 32 = rw (n .newly .ensures) (length-lines-le 32 _) in
     let more = score-more (a .lines) gs (ok .gates-ok) (a .left-0 .now) (a .left-1 .now) (a .vector) (l .loop .i) (l .loop .state) _
-        (ok .lines-fit) (search needs) (omega arith) (l .before .all-ones .ensures) (l .loop .inv .1 .1 .0) in
-    let up = c .step .ensures ∙ next-level gs (l .loop .i) (a .vector) (l .loop .state) _ _ (omega arith) (l .loop .inv .1 .1 .0) (omega arith) (c .before .gate-at .ensures) in
+    (ok .lines-fit) (search needs) (omega arith) (l .before .all-ones .ensures) (l .loop .inv .1 .1 .0) in
+    let up = c .step .ensures ∙ next-level gs (l .loop .i) (a .vector) (l .loop .state) _ _ (omega arith) (l .loop .inv .1 .1 .0) (omega arith)
+    (c .before .gate-at .ensures) in
     (l .loop .inv .0, (omega arith, (up, (omega arith, omega (arith, more, n .newly .ensures)))))
 
 mul-newly-3 : tie.Need-mul-newly-3 Inv-loop μ-loop
@@ -109,7 +110,7 @@ newly-requires-2 c κs = search needs
 
 add-result : tie.Need-add-result Inv-loop μ-loop
 add-result c =
-    let few : c .newly2 .result ≤ 32 = rw (c .newly2 .ensures) (lines-le 32 _) in
+    let few : c .newly2 .result ≤ 32 = rw (c .newly2 .ensures) (length-lines-le 32 _) in
     omega arith
 
 returns : tie.Need-returns Inv-loop μ-loop
@@ -118,8 +119,9 @@ returns c =
     let a = l .before .before .before .args in
     let gs = gatesOf (a .gates .now) in
     let ok : Sound (a .lines) (a .gates .now) = search needs in
-    let last = score-last (a .lines) gs (ok .gates-ok) (a .left-0 .now) (a .left-1 .now) (a .vector) (l .loop .i) (length (a .gates .now) / 3) (l .loop .state) _
-        (ok .lines-fit) (search needs) (omega arith) (omega arith) (l .before .all-ones .ensures) (l .loop .inv .1 .1 .0) in
+    let last = score-last (a .lines) gs (ok .gates-ok) (a .left-0 .now) (a .left-1 .now) (a .vector) (l .loop .i) (length (a .gates .now) / 3)
+    (l .loop .state) _
+    (ok .lines-fit) (search needs) (omega arith) (omega arith) (l .before .all-ones .ensures) (l .loop .inv .1 .1 .0) in
     omega (arith, last, c .newly2 .ensures)
 
 pub score-spec : {M : Type 1} → statement M

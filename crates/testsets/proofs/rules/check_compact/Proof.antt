@@ -21,7 +21,8 @@ returns : tie.Need-returns
 unfolding compactRows
 returns c =
     let a = c .before .before .before .before .before .args in
-    refused-on (circuitRows (a .lines) (a .gates .now)) _ fine _ _ (ap found (sym (c .before .refusal .given .1)) ∙ c .before .before .before .check-circuit .ensures)
+    refused-on (circuitRows (a .lines) (a .gates .now)) _ fine _ _
+    (ap found (sym (c .before .refusal .given .1)) ∙ c .before .before .before .check-circuit .ensures)
 
 enum-told : tie.Need-enum-told
 enum-told c = search needs

@@ -6,14 +6,16 @@ use borrow.Author.Needs.{needs}
 use lib.ListN.{length}
 use Rattle.circuit.specs.Gates.{gatesOf}
 use Rattle.circuit.proofs.GateLaws.{gates-count}
-use Rattle.words.proofs.SplitLaws.{lines-le}
+use Rattle.words.proofs.AndLaws.{length-lines-le}
 use Rattle.testsets.specs.Sets.{siteCount}
 use Rattle.testsets.proofs.SiteLaws.{sitesFrom, sites-all, sites-more, sites-none}
 use Rattle.testsets.proofs.rules.site_count.Statement.{statement}
 use Rattle.testsets.proofs.rules.site_count.Tie as tie
 
 abbrev Inv-loop : tie.InvT-loop
-Inv-loop lines gates end sum₀ i₀ sum i = (end ≡ length (gatesOf gates) + 1) × ((i ≤ end) × ((sum ≤ 32 * i) × (siteCount lines (gatesOf gates) ≡ sum + sitesFrom lines (gatesOf gates) i)))
+Inv-loop lines gates end sum₀ i₀ sum i =
+    (end ≡ length (gatesOf gates) + 1) × ((i ≤ end)
+    × ((sum ≤ 32 * i) × (siteCount lines (gatesOf gates) ≡ sum + sitesFrom lines (gatesOf gates) i)))
 
 abbrev μ-loop : tie.MeasureT-loop
 μ-loop lines gates end sum₀ i₀ sum i = end - i
@@ -22,7 +24,9 @@ add-end : tie.Need-add-end Inv-loop μ-loop
 add-end c = omega arith
 
 loop-holds : tie.Need-loop-holds Inv-loop μ-loop
-loop-holds c = let a = c .before .args in (omega (arith, gates-count (a .gates .now)), (omega arith, (omega arith, omega (arith, sites-all (a .lines) (gatesOf (a .gates .now))))))
+loop-holds c =
+    let a = c .before .args in
+    (omega (arith, gates-count (a .gates .now)), (omega arith, (omega arith, omega (arith, sites-all (a .lines) (gatesOf (a .gates .now))))))
 
 cast-sites-at : tie.Need-cast-sites-at Inv-loop μ-loop
 cast-sites-at c = omega arith
@@ -34,7 +38,7 @@ ones-requires : tie.Need-ones-requires Inv-loop μ-loop
 ones-requires c κs = search needs
 
 add-sum : tie.Need-add-sum Inv-loop μ-loop
-add-sum c = omega (arith, c .ones .ensures, lines-le 32 (c .before .sites-at .result))
+add-sum c = omega (arith, c .ones .ensures, length-lines-le 32 (c .before .sites-at .result))
 
 add-i : tie.Need-add-i Inv-loop μ-loop
 add-i c = omega arith
@@ -46,7 +50,7 @@ loop-again : tie.Need-loop-again Inv-loop μ-loop
 loop-again c =
     let l = c .before .before .before in
     let a = l .before .before .args in
-    let fit = lines-le 32 (c .before .sites-at .result) in
+    let fit = length-lines-le 32 (c .before .sites-at .result) in
     let more = sites-more (a .lines) (gatesOf (a .gates .now)) (l .loop .i) _ (omega arith) (omega arith) (c .before .sites-at .ensures) in
     (l .loop .inv .0, (omega arith, (omega (arith, c .ones .ensures), omega (arith, c .ones .ensures))))
 
