@@ -1,5 +1,5 @@
 -- The lines of a gate as words: its controls, and the lines that are neither a control nor the target.
-use Prim.Native.Nat.{ℕ, _^_, _<_}
+use Prim.Native.Nat.{ℕ, _<_}
 use mathlib.Core.Path.{_≡_, refl, sym, ap, _∙_}
 use mathlib.Core.Bool.{Bool, true, false, not, _&&_}
 use native.Mathlib.Omega.{arith}
@@ -10,7 +10,6 @@ use Rattle.basics.proofs.Tests.{by-equal, by-test}
 use Rattle.words.specs.Word.{bit, flip, allOnes}
 use Rattle.words.specs.Inverse.{inverse}
 use Rattle.words.specs.WordOf.{wordOf}
-use Rattle.words.proofs.Bits.{bit-le}
 use Rattle.words.proofs.Lines.{bit-flip-same, bit-flip-other, flip-lt}
 use Rattle.words.proofs.Inverse.{bit-inverse, inverse-lt, inverse-code, on-inverse, not-on}
 use Rattle.words.proofs.WordOfLaws.{word-is}

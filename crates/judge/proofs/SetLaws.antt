@@ -1,14 +1,13 @@
 -- Laws of a set's marks: a vector at a time, and what the marks of a whole set say of a class.
 use Prim.Native.Nat.{ℕ, _+_, _≤_, _<_}
-use mathlib.Core.Path.{_≡_, refl, sym, ap, _∙_}
-use mathlib.Core.Logic.{_≢_}
-use mathlib.Core.Bool.{Bool, true, not}
-use mathlib.Core.List.{List, [], _∷_}
+use mathlib.Core.Path.{_≡_, sym, ap, _∙_}
+use mathlib.Core.Bool.{Bool, not}
+use mathlib.Core.List.{List}
 use native.Mathlib.Numerals.{add-one}
 use native.Mathlib.Omega.{arith}
 use lib.ListN.{length, getD, drop, replicate, drop-of-length-le}
 use lib.Seq.{drop-cons}
-use Rattle.basics.specs.Lists.{keep, All}
+use Rattle.basics.specs.Lists.{All}
 use Rattle.basics.proofs.All.{all-map}
 use Rattle.basics.proofs.Kept.{keep-agree}
 use Rattle.basics.proofs.Tests.{by-equal, pick-true, pick-false}
@@ -17,11 +16,10 @@ use Rattle.circuit.specs.Gates.{gatesOf}
 use Rattle.circuit.specs.Sound.{Sound}
 use Rattle.circuit.specs.declared.Gate.{Gate}
 use Rattle.simulator.specs.declared.Fault.{Fault}
-use Rattle.simulator.specs.Rules.{isFault}
 use Rattle.simulator.proofs.ClassLaws.{stuck-fault, names-gate, no-value, names-line}
-use Rattle.judge.specs.Classes.{stuckFaults, classFaults}
+use Rattle.judge.specs.Classes.{classFaults}
 use Rattle.judge.specs.Coverages.{emptyCoverage, marked, markAll, levelMarks, gateMarks, levelMarked, gateMarked, isMarked, withAll}
-use Rattle.judge.specs.Judging.{caughtBySome, firstTold, verdict}
+use Rattle.judge.specs.Judging.{caughtBySome, verdict}
 use Rattle.judge.specs.declared.coverage.Coverage.{Coverage}
 use Rattle.judge.proofs.ClassLists.{OfClass, class-faults-are}
 use Rattle.judge.proofs.CoverLaws.{with-all-stuck-0, with-all-stuck-1, with-all-gates, with-all-controls, with-all-extras}

@@ -2,7 +2,6 @@
 use Prim.Native.Nat.{ℕ}
 use mathlib.Core.Path.{_≡_, refl, ap}
 use native.Mathlib.Omega.{arith}
-use Rattle.refusals.specs.Tables.Told.{refused}
 use Rattle.refusals.proofs.Tables.{told-refusal}
 use Rattle.simulator.specs.Answers.{toldCaught, toldMade}
 use Rattle.simulator.specs.declared.Caught.{Caught}

@@ -9,7 +9,6 @@ use native.Mathlib.Omega.{arith}
 use lib.ListN.{length, take, drop}
 use lib.Dec.{eqb}
 use borrow.Author.Tests.{eq-eqb, ne-eqb}
-use Rattle.basics.specs.Choice.{pick}
 use Rattle.basics.specs.Lists.{All}
 use Rattle.basics.proofs.Tests.{not-eqb-iff, pick-true, pick-false, eqb-ext}
 use Rattle.basics.proofs.All.{all-map, all-drop}

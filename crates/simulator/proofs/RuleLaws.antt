@@ -1,15 +1,13 @@
 -- Laws of the rules of faults: what a fault that breaks none is, class by class.
-use Prim.Native.Nat.{ℕ, _*_, _/_, _%_, _≤_, _<_}
-use mathlib.Core.Path.{_≡_, refl, sym, ap, _∙_}
+use Prim.Native.Nat.{ℕ, _/_, _%_, _≤_, _<_}
+use mathlib.Core.Path.{_≡_, sym, ap, _∙_}
 use mathlib.Core.Logic.{_≢_}
-use mathlib.Core.Bool.{Bool, true, false, not, _&&_, _||_, true≢false}
+use mathlib.Core.Bool.{Bool, true, false, not, true≢false}
 use mathlib.Core.List.{List, [], _∷_, _++_}
 use native.Mathlib.Omega.{arith}
 use lib.ListN.{length}
 use lib.Dec.{eqb, ltb, leb}
 use borrow.Author.Tests.{ltb-true, leb-true, eqb-true, eq-eqb, ne-eqb, lt-ltb, le-ltb, le-leb, lt-leb, not-true, not-false}
-use Rattle.basics.specs.Choice.{pick}
-use Rattle.basics.specs.Lists.{All}
 use Rattle.basics.proofs.Tests.{by-test, not-not, and-both, pick-true, pick-false}
 use Rattle.basics.proofs.All.{all-map}
 use Rattle.words.specs.Word.{bit}

@@ -1,6 +1,6 @@
 -- Laws of one line: inverted, and forced.
 use Prim.Native.Nat.{ℕ, _-_, _^_, _≤_, _<_}
-use mathlib.Core.Path.{_≡_, refl, sym, ap, _∙_}
+use mathlib.Core.Path.{_≡_, sym, ap, _∙_}
 use mathlib.Core.Logic.{_↔_, _≢_}
 use native.Mathlib.Omega.{arith}
 use lib.Pow.{pow-lt}

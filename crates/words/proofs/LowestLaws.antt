@@ -1,6 +1,6 @@
 -- The lowest line of a word that is 1, as code finds it: by the zeros below it.
 use Prim.Native.Nat.{ℕ, zero, suc, _+_, _/_, _%_, _^_, _<_}
-use mathlib.Core.Path.{_≡_, refl, sym, ap, _∙_}
+use mathlib.Core.Path.{_≡_, sym, _∙_}
 use mathlib.Core.Logic.{_≢_}
 use native.Mathlib.Nat.{div-one, add-zero}
 use native.Mathlib.Numerals.{add-one}

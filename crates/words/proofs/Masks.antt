@@ -1,6 +1,6 @@
 -- Laws of masks: all lines of a mask are 1, and the mask of all lines.
 use Prim.Native.Nat.{ℕ, zero, suc, _-_, _/_, _^_, _<_}
-use mathlib.Core.Path.{_≡_, refl, sym, ap, _∙_}
+use mathlib.Core.Path.{_≡_, sym, ap, _∙_}
 use mathlib.Core.Logic.{_↔_, by-cases}
 use mathlib.Core.Bool.{true, _&&_}
 use native.Mathlib.Decide.{decLe}

@@ -1,5 +1,5 @@
 -- `circuit::backward` meets its contract: the check is the whole table, and what passes it is a sound circuit and one of its levels. Assumes nothing.
-use mathlib.Core.Path.{_≡_, ap, sym, _∙_}
+use mathlib.Core.Path.{ap, sym, _∙_}
 use native.Mathlib.Omega.{arith}
 use Rattle.refusals.specs.Checks.{found}
 use Rattle.refusals.proofs.Tables.{refused-all, fine-all}

@@ -1,5 +1,4 @@
 -- `refusals::unless` meets its contract: it is a table of one row. Assumes nothing.
-use borrow.Author.Needs.{needs}
 use Rattle.refusals.proofs.unless.Statement.{statement}
 use Rattle.refusals.proofs.unless.Tie as tie
 

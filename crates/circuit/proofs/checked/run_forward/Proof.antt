@@ -1,5 +1,5 @@
 -- `circuit::checked::run_forward` meets its contract: the input is level 0. Assumes nothing.
-use mathlib.Core.Path.{_≡_, ap, sym, _∙_}
+use mathlib.Core.Path.{_∙_}
 use Rattle.circuit.specs.Gates.{gatesOf}
 use Rattle.circuit.proofs.RunLaws.{onward-forward}
 use borrow.Author.Needs.{needs}

@@ -1,5 +1,5 @@
 -- `circuit::rules::check_run` meets its contract: the rules of the circuit and the state come first, then rule 12. Assumes nothing.
-use mathlib.Core.Path.{_≡_, ap, sym, _∙_}
+use mathlib.Core.Path.{ap, sym, _∙_}
 use mathlib.Core.List.{_++_}
 use native.Mathlib.Omega.{arith}
 use lib.ListN.{length}

@@ -1,6 +1,6 @@
 -- `circuit::rules::check_vector` meets its contract: the rules of the circuit come first, then rule 8. Assumes nothing.
 use Prim.Native.Nat.{_^_}
-use mathlib.Core.Path.{_≡_, ap, sym, _∙_}
+use mathlib.Core.Path.{ap, sym, _∙_}
 use native.Mathlib.Omega.{arith}
 use borrow.Author.Tests.{ltb-true, ltb-false, le-leb, lt-leb}
 use Rattle.refusals.specs.Checks.{fine, found}

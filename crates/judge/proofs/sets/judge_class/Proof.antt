@@ -1,5 +1,5 @@
 -- `judge::sets::judge_class` meets its contract: class 1 goes by levels, the others by gates. Assumes nothing.
-use mathlib.Core.Path.{_≡_, ap, sym, _∙_}
+use mathlib.Core.Path.{ap, sym, _∙_}
 use Rattle.circuit.specs.Gates.{gatesOf}
 use Rattle.judge.specs.Judging.{caughtBySome, verdict}
 use Rattle.judge.proofs.ClassLists.{list-one}

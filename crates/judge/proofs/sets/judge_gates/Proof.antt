@@ -1,5 +1,5 @@
 -- `judge::sets::judge_gates` meets its contract: the words that its own marks make say what some vector catches. Assumes nothing.
-use mathlib.Core.Path.{_≡_, ap, sym, _∙_}
+use mathlib.Core.Path.{_∙_}
 use Rattle.judge.proofs.SetLaws.{set-gates}
 use borrow.Author.Needs.{needs}
 use Rattle.judge.proofs.sets.judge_gates.Statement.{statement}

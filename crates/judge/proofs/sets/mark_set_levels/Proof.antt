@@ -3,7 +3,6 @@ use Prim.Native.Nat.{_+_, _-_, _^_, _<_}
 use mathlib.Core.Path.{_≡_, refl, sym, ap, _∙_}
 use native.Mathlib.Omega.{arith}
 use lib.ListN.{length, drop}
-use borrow.Author.Needs.{needs}
 use Rattle.basics.proofs.All.{all-at}
 use Rattle.circuit.specs.Gates.{gatesOf}
 use Rattle.judge.specs.Coverages.{markAll, levelMarks}

@@ -1,5 +1,5 @@
 -- `simulator::checked::catches_missing_gate` meets its contract: the gate is asked at the level that it reads. Assumes nothing.
-use mathlib.Core.Path.{_≡_, ap, sym, _∙_}
+use mathlib.Core.Path.{_≡_}
 use native.Mathlib.Omega.{arith}
 use Prim.Native.Nat.{_-_}
 use borrow.Author.Needs.{needs}

@@ -1,7 +1,6 @@
 -- `simulator::checked::faulty_run` meets its contract: each class leaves the circuit at one level in another state, and the rest of the circuit goes on from there.
 -- Assumes nothing.
-use Prim.Native.Nat.{_≤_, _<_}
-use mathlib.Core.Path.{_≡_, ap, sym, _∙_}
+use mathlib.Core.Path.{_≡_, sym, _∙_}
 use native.Mathlib.Omega.{arith}
 use Rattle.circuit.specs.Gates.{gatesOf, gateAt}
 use Rattle.circuit.specs.Controls.{lessControl, moreControl}

@@ -3,7 +3,7 @@ use borrow.Author.Needs.{needs}
 use Prim.Native.Nat.{_+_, _-_}
 use mathlib.Core.Path.{_≡_, refl, ap, sym, _∙_}
 use native.Mathlib.Omega.{arith}
-use lib.ListN.{length, drop}
+use lib.ListN.{drop}
 use Rattle.simulator.specs.Faults.{forceAt}
 use Rattle.simulator.specs.Rules.{faultsOf}
 use Rattle.simulator.proofs.RecordLaws.{records-count}

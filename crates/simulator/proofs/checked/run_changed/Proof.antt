@@ -1,5 +1,5 @@
 -- `simulator::checked::run_changed` meets its contract: the other gate makes of the state that the gate reads what goes on. Assumes nothing.
-use mathlib.Core.Path.{_≡_, ap, sym, _∙_}
+use mathlib.Core.Path.{_≡_}
 use native.Mathlib.Omega.{arith}
 use Prim.Native.Nat.{_-_}
 use borrow.Author.Needs.{needs}

@@ -1,5 +1,5 @@
 -- `simulator::checked::run_rest` meets its contract: the last level comes after all gates. Assumes nothing.
-use mathlib.Core.Path.{_≡_, ap, sym, _∙_}
+use mathlib.Core.Path.{_≡_, sym, _∙_}
 use lib.ListN.{length}
 use Rattle.circuit.specs.Gates.{gatesOf}
 use Rattle.circuit.proofs.GateLaws.{gates-count}

@@ -1,5 +1,5 @@
 -- `simulator::checked::run_without` meets its contract: the state that the gate reads goes on as the state that it would make. Assumes nothing.
-use mathlib.Core.Path.{_≡_, ap, sym, _∙_}
+use mathlib.Core.Path.{_≡_}
 use native.Mathlib.Omega.{arith}
 use Prim.Native.Nat.{_-_}
 use borrow.Author.Needs.{needs}

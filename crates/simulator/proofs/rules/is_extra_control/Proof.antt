@@ -1,5 +1,5 @@
 -- `simulator::rules::is_extra_control` meets its contract: each test is one of the fields of an extra control. Assumes nothing.
-use mathlib.Core.Path.{_≡_, ap, sym, _∙_}
+use mathlib.Core.Path.{_≡_, _∙_}
 use native.Mathlib.Omega.{arith}
 use Rattle.circuit.specs.Gates.{gatesOf, gateAt}
 use Rattle.circuit.specs.Controls.{isControl}

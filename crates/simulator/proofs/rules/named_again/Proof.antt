@@ -1,8 +1,8 @@
 -- `simulator::rules::named_again` meets its contract: each turn passes a record of another site. Assumes nothing.
-use Prim.Native.Nat.{_+_, _-_, _≤_}
+use Prim.Native.Nat.{_-_}
 use mathlib.Core.Path.{_≡_, refl, ap, sym, _∙_}
 use native.Mathlib.Omega.{arith}
-use lib.ListN.{length, getD, drop}
+use lib.ListN.{getD, drop}
 use borrow.Author.Needs.{needs}
 use Rattle.basics.specs.Lists.{some}
 use Rattle.basics.proofs.Lists.{some-found, some-passed, some-end}

@@ -1,8 +1,8 @@
 -- `simulator::rules::site_twice` meets its contract: each turn passes a record whose site no later one names. Assumes nothing.
-use Prim.Native.Nat.{_+_, _-_}
+use Prim.Native.Nat.{_-_}
 use mathlib.Core.Path.{_≡_, refl, sym, _∙_}
 use native.Mathlib.Omega.{arith}
-use lib.ListN.{length, drop}
+use lib.ListN.{drop}
 use Rattle.simulator.specs.Rules.{faultsOf}
 use Rattle.simulator.specs.Multiple.{siteTwice}
 use Rattle.simulator.proofs.RecordLaws.{records-count, twice-found, twice-passed, twice-end}
