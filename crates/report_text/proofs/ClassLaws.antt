@@ -1,0 +1,166 @@
+-- Laws of the lines of the classes: a verdict's text is its class's line, and a class that is not wanted has none.
+use Prim.Native.Nat.{ℕ, zero, suc, _+_, _-_, _<_, _≤_}
+use mathlib.Core.Path.{_≡_, refl, ap, sym, _∙_}
+use mathlib.Core.Bool.{Bool, true, false, not}
+use mathlib.Core.List.{List, [], _∷_, _++_, append-assoc, append-nil}
+use native.Mathlib.Numerals.{add-one}
+use native.Mathlib.Omega.{arith}
+use lib.ListN.{length, take, length-append}
+use lib.Seq.{sets}
+use lib.Dec.{eqb}
+use borrow.Author.Tests.{eq-eqb, ne-eqb}
+use Rattle.basics.specs.Choice.{pick}
+use Rattle.basics.specs.Lists.{upFrom, keep, each}
+use Rattle.basics.proofs.Tests.{by-test}
+use Rattle.words.specs.Word.{bit}
+use Rattle.refusals.specs.Tables.Told.{answered, refused}
+use Rattle.circuit.specs.declared.Gate.{Gate}
+use Rattle.simulator.specs.declared.Fault.{Fault}
+use Rattle.judge.specs.Classes.{classFaults}
+use Rattle.judge.specs.Judging.{caughtBySome, caughtOf, left, verdict, firstTold}
+use Rattle.judge.specs.Answers.{toldVerdict}
+use Rattle.judge.specs.declared.Verdict.{Verdict}
+use Rattle.judge.specs.declared.Verdict.the-variants.{Complete, Left, Refused}
+use Rattle.job.proofs.ByteLaws.{sets-append}
+use Rattle.report_text.specs.Text.{field, line}
+use Rattle.report_text.specs.Report.{letterOf, shown, firstText, classText, isWanted, wanted}
+use Rattle.report_text.specs.Parts.{okText, numbersLine, numbersOf, verdictText, wantedText}
+
+-- ---- letters
+
+module _ (class : ℕ) where
+  pub letter-S : class ≡ 1 → 83 ≡ letterOf class
+  unfolding letterOf
+  letter-S e = rw (eq-eqb class 1 e)
+
+  pub letter-M : class ≡ 2 → 77 ≡ letterOf class
+  unfolding letterOf
+  letter-M e = rw e
+
+  pub letter-C : class ≡ 3 → 67 ≡ letterOf class
+  unfolding letterOf
+  letter-C e = rw e
+
+  pub letter-X : (class ≡ 1 → ⊥) → (class ≡ 2 → ⊥) → (class ≡ 3 → ⊥) → 88 ≡ letterOf class
+  unfolding letterOf
+  letter-X a b d = rw (ne-eqb class 1 a, ne-eqb class 2 b, ne-eqb class 3 d)
+
+  pub numbers-S : class ≡ 1 → 5 ≡ numbersOf class
+  unfolding numbersOf
+  numbers-S e = rw (eq-eqb class 1 e)
+
+  pub numbers-M : class ≡ 2 → 3 ≡ numbersOf class
+  unfolding numbersOf
+  numbers-M e = rw e
+
+  pub numbers-CX : (class ≡ 1 → ⊥) → (class ≡ 2 → ⊥) → 4 ≡ numbersOf class
+  unfolding numbersOf
+  numbers-CX a b = rw (ne-eqb class 1 a, ne-eqb class 2 b)
+
+-- ---- a verdict's text
+
+-- the numbers of a line with an uncaught fault are the front of all five
+numbers-front : (class a b : ℕ) (f : Fault)
+    → take (numbersOf class) (a ∷ b ∷ f .place ∷ f .line ∷ f .value ∷ []) ≡ a ∷ b ∷ shown class f
+unfolding numbersOf shown
+numbers-front class a b f = by-test (eqb class 1) (λ e. rw e) (λ e. by-test (eqb class 2) (λ k. rw (e, k)) (λ k. rw (e, k)))
+
+pub numbers-most : (class : ℕ) → numbersOf class ≤ 5
+unfolding numbersOf
+numbers-most class = by-test (eqb class 1)
+    (λ e. rw e (omega arith))
+    (λ e. by-test (eqb class 2) (λ k. rw (e, k) (omega arith)) (λ k. rw (e, k) (omega arith)))
+
+pub left-line : (class a b : ℕ) (f : Fault) (count letter : ℕ) → count ≡ numbersOf class → letter ≡ letterOf class
+    → numbersLine letter (take count (a ∷ b ∷ f .place ∷ f .line ∷ f .value ∷ [])) false ≡ numbersLine (letterOf class) (a ∷ b ∷ shown class f) false
+left-line class a b f count letter e l = rw (e, l, numbers-front class a b f)
+
+-- two lists of fields are one
+fields-join : (xs ys : List ℕ) → each field xs ++ each field ys ≡ each field (xs ++ ys)
+unfolding each
+fields-join [] ys = refl
+fields-join (x ∷ xs) ys = append-assoc (field x) (each field xs) (each field ys) ∙ ap (λ rest. field x ++ rest) (fields-join xs ys)
+
+-- the text of the list of uncaught faults, as the verdict tells the first
+module _ (class a b : ℕ) where
+  text-ok : line (letterOf class) (each field (a ∷ b ∷ []) ++ firstText class []) ≡ numbersLine (letterOf class) (a ∷ b ∷ []) true
+  unfolding firstText numbersLine okText
+  text-ok = refl
+
+  text-left : (f : Fault) (rest : List Fault)
+      → line (letterOf class) (each field (a ∷ b ∷ []) ++ firstText class (f ∷ rest)) ≡ numbersLine (letterOf class) (a ∷ b ∷ shown class f) false
+  unfolding firstText numbersLine okText
+  text-left f rest = ap (line (letterOf class)) (fields-join (a ∷ b ∷ []) (shown class f) ∙ sym (append-nil (each field (a ∷ b ∷ shown class f))))
+
+shown-same : (class : ℕ) (f h : Fault) → f .place ≡ h .place → f .line ≡ h .line → f .value ≡ h .value → shown class f ≡ shown class h
+unfolding shown
+shown-same class f h p l v = rw (p, l, v)
+
+of-told : (class a b : ℕ) (rest : List Fault) (v : Verdict) → toldVerdict v ≡ answered (a ∷ b ∷ firstTold rest)
+    → verdictText class v ≡ line (letterOf class) (each field (a ∷ b ∷ []) ++ firstText class rest)
+of-told class a b [] (Complete c d) e =
+    let p : c ≡ a = cc in
+    let q : d ≡ b = cc in
+    rw (p, q) (sym (text-ok class a b))
+of-told class a b (f ∷ rest) (Complete c d) e = let z : _≡_ {A = ℕ} 0 1 = cc in absurd (omega arith)
+of-told class a b [] (Left c d h) e = let z : _≡_ {A = ℕ} 0 1 = cc in absurd (omega arith)
+of-told class a b (f ∷ rest) (Left c d h) e =
+    let p : c ≡ a = cc in
+    let q : d ≡ b = cc in
+    rw (p, q, shown-same class h f (cc) (cc) (cc)) (sym (text-left class a b f rest))
+of-told class a b rest (Refused r) e = let z : _≡_ {A = ℕ} 0 1 = cc in absurd (omega arith)
+
+pub verdict-text : (n : ℕ) (gs : List Gate) (xs : List ℕ) (class : ℕ) (v : Verdict)
+    → toldVerdict v ≡ verdict (caughtBySome gs xs) (classFaults n gs class) → verdictText class v ≡ classText n gs xs class
+unfolding verdict classText caughtOf left
+verdict-text n gs xs class v e = of-told class _ _ _ v e
+
+-- ---- the classes wanted, one a turn
+
+module _ (n : ℕ) (gs : List Gate) (xs : List ℕ) (classes : ℕ) where
+  pub not-wanted : (class : ℕ) → bit classes (class - 1) ≡ 0 → [] ≡ wantedText n gs xs classes class
+  unfolding wantedText isWanted
+  not-wanted class e = rw e
+
+  pub is-wanted : (class : ℕ) → bit classes (class - 1) ≡ 1 → classText n gs xs class ≡ wantedText n gs xs classes class
+  unfolding wantedText isWanted
+  is-wanted class e = rw e
+
+  kept-text : (list : List ℕ) → each (classText n gs xs) (keep (isWanted classes) list) ≡ each (wantedText n gs xs classes) list
+  unfolding each keep wantedText
+  kept-text [] = refl
+  kept-text (class ∷ list) = by-test (isWanted classes class)
+      (λ e. rw e (ap (λ rest. classText n gs xs class ++ rest) (kept-text list)))
+      (λ e. rw e (kept-text list))
+
+  pub wanted-text : each (classText n gs xs) (wanted classes) ≡ each (wantedText n gs xs classes) (upFrom 1 (5 - 1))
+  unfolding wanted
+  wanted-text = kept-text (upFrom 1 4)
+
+  turn : (class : ℕ) → class ≤ 4
+      → each (wantedText n gs xs classes) (upFrom class (5 - class))
+      ≡ wantedText n gs xs classes class ++ each (wantedText n gs xs classes) (upFrom (class + 1) (5 - (class + 1)))
+  unfolding each upFrom
+  turn class h = let e : 5 - class ≡ suc (5 - (class + 1)) = omega arith in rw (e, add-one class)
+
+  pub turn-room : (class end next : ℕ) → class ≤ 4 → next ≡ end + length (wantedText n gs xs classes class)
+      → next + length (each (wantedText n gs xs classes) (upFrom (class + 1) (5 - (class + 1))))
+      ≡ end + length (each (wantedText n gs xs classes) (upFrom class (5 - class)))
+  turn-room class end next h e =
+      rw (
+        turn class h,
+        length-append (wantedText n gs xs classes class)
+            (each (wantedText n gs xs classes) (upFrom (class + 1) (5 - (class + 1)))),
+      )
+      (omega arith)
+
+  pub turn-put : (class end next : ℕ) → class ≤ 4 → next ≡ end + length (wantedText n gs xs classes class) → (out : List ℕ)
+      → sets (sets out end (wantedText n gs xs classes class)) next (each (wantedText n gs xs classes) (upFrom (class + 1) (5 - (class + 1))))
+      ≡ sets out end (each (wantedText n gs xs classes) (upFrom class (5 - class)))
+  turn-put class end next h e out = rw (turn class h) (sets-append out end next (wantedText n gs xs classes class) _ (sym e))
+
+  pub turn-end : (class end : ℕ) → 4 < class → (out : List ℕ)
+      → (end + length (each (wantedText n gs xs classes) (upFrom class (5 - class))) ≡ end)
+      × (sets out end (each (wantedText n gs xs classes) (upFrom class (5 - class))) ≡ out)
+  unfolding each upFrom
+  turn-end class end h out = let e : 5 - class ≡ 0 = omega arith in rw e (omega arith, refl)

@@ -1,0 +1,5 @@
+pub mod TextLaws
+pub mod ClassLaws
+pub mod LengthLaws
+pub mod ReportLaws
+pub mod AnswerLaws

@@ -1,0 +1,217 @@
+-- Laws of the whole report: its text in parts, and what bytes that are read say of it.
+use Prim.Native.Nat.{ℕ, _+_, _*_, _/_, _^_, _<_, _≤_}
+use mathlib.Core.Path.{_≡_, refl, ap, sym, _∙_}
+use mathlib.Core.Bool.{true, false}
+use mathlib.Core.List.{List, [], _∷_, _++_, append-nil}
+use native.Mathlib.Omega.{arith}
+use lib.ListN.{length, take, drop, replicate}
+use lib.Seq.{sets, take-append-seam, length-sets}
+use borrow.Author.Tests.{eq-eqb, lt-ltb, le-ltb}
+use Rattle.basics.specs.Lists.{All, each}
+use Rattle.refusals.specs.Tables.{Row, Told, firstOf, after}
+use Rattle.refusals.specs.Tables.Row.{refuse_at_when_}
+use Rattle.refusals.specs.Tables.Told.{answered, refused}
+use Rattle.refusals.specs.Checks.{fine}
+use Rattle.refusals.proofs.Tables.{refused-on, fine-on, fine-parts, after-fine}
+use Rattle.circuit.specs.Gates.{gatesOf}
+use Rattle.circuit.specs.Rules.{circuitSetRows, setRows}
+use Rattle.circuit.specs.Sound.{Sound}
+use Rattle.circuit.proofs.GateLaws.{gates-count}
+use Rattle.circuit.proofs.RuleLaws.{VectorsOk, vectors-ok, lines-right, sizes-right}
+use Rattle.job.specs.Image.{linesIn, classesIn, gatesIn, vectorsIn, gateWords, vectorWords}
+use Rattle.job.specs.Rules.{readRows}
+use Rattle.job.proofs.ByteLaws.{length-words, sets-append, sets-front}
+use Rattle.job.proofs.ImageLaws.{gates-front, vectors-front}
+use Rattle.job.specs.Parts.{badLines, badCounts, headerRows, contentRows, contentRowsIn, badRoom}
+use Rattle.job.proofs.RuleLaws.{ReadOk, read-ok, header-ok}
+use Rattle.report_text.specs.Text.{field, line}
+use Rattle.report_text.specs.Report.{classText, wanted, jobText, refusedText, textOf, reportText}
+use Rattle.report_text.specs.Rules.{reportRows}
+use Rattle.report_text.specs.Parts.{okText, numbersLine}
+use Rattle.report_text.proofs.LengthLaws.{job-fits, refused-fits}
+
+-- ---- the text of a refused job, and of any other
+
+bare : (letter : ℕ) (numbers : List ℕ) → numbersLine letter numbers false ≡ line letter (each field numbers)
+unfolding numbersLine okText
+bare letter numbers = ap (line letter) (append-nil (each field numbers))
+
+pub refused-line : (number place : ℕ) → numbersLine 69 (number ∷ place ∷ []) false ≡ refusedText number place
+unfolding refusedText
+refused-line number place = bare 69 (number ∷ place ∷ [])
+
+pub job-line : (n : ℕ) (words xs : List ℕ)
+    → numbersLine 74 (n ∷ length words / 3 ∷ length xs ∷ []) false ≡ line 74 (each field (n ∷ length (gatesOf words) ∷ length xs ∷ []))
+job-line n words xs = rw (gates-count words) (bare 74 (n ∷ length words / 3 ∷ length xs ∷ []))
+
+pub job-put : (text : List ℕ) (n classes : ℕ) (words xs : List ℕ) (end : ℕ)
+    → end ≡ 0 + length (line 74 (each field (n ∷ length (gatesOf words) ∷ length xs ∷ [])))
+    → sets (sets text 0 (line 74 (each field (n ∷ length (gatesOf words) ∷ length xs ∷ [])))) end (each (classText n (gatesOf words) xs) (wanted classes))
+    ≡ sets text 0 (jobText n classes words xs)
+unfolding jobText
+job-put text n classes words xs end e =
+    sets-append text 0 end (line 74 (each field (n ∷ length (gatesOf words) ∷ length xs ∷ []))) (each (classText n (gatesOf words) xs) (wanted classes)) (sym e)
+
+-- ---- what a reading tells
+
+-- a call that answers breaks no rule and tells its own answer
+answered-fine : (rows : List Row) (values answer : List ℕ) → answered values ≡ firstOf rows (answered answer)
+    → (values ≡ answer) × (fine ≡ firstOf rows fine)
+answered-fine [] values answer e = (cc, refl)
+answered-fine (refuse k at p when true ∷ rows) values answer e = let z : _≡_ {A = ℕ} 0 1 = cc in absurd (omega arith)
+answered-fine (refuse k at p when false ∷ rows) values answer e = answered-fine rows values answer e
+
+-- a call that refuses breaks the rule it tells
+refused-rows : (rows : List Row) (k p : ℕ) (answer : List ℕ) → refused k p ≡ firstOf rows (answered answer) → refused k p ≡ firstOf rows fine
+refused-rows [] k p answer e = let z : _≡_ {A = ℕ} 0 1 = cc in absurd (omega arith)
+refused-rows (refuse n at q when true ∷ rows) k p answer e = e
+refused-rows (refuse n at q when false ∷ rows) k p answer e = refused-rows rows k p answer e
+
+pub report-refused : (bytes : List ℕ) (k p gateRoom vectorRoom : ℕ) (answer : List ℕ) → gateRoom ≡ 3072 → vectorRoom ≡ 2048
+    → refused k p ≡ firstOf (readRows bytes gateRoom vectorRoom) (answered answer) → refusedText k p ≡ reportText bytes
+unfolding reportText
+report-refused bytes k p gateRoom vectorRoom answer g v e = rw (← g, ← v, ← refused-rows (readRows bytes gateRoom vectorRoom) k p answer e)
+
+report-job : (bytes : List ℕ) → fine ≡ firstOf (readRows bytes 3072 2048) fine
+    → jobText (linesIn bytes) (classesIn bytes) (gateWords bytes) (vectorWords bytes) ≡ reportText bytes
+unfolding reportText
+report-job bytes e = rw (← e)
+
+-- ---- a job that is read breaks no rule of the judge
+
+read-set : (bytes : List ℕ) (words vectors : ℕ) → fine ≡ firstOf (readRows bytes words vectors) fine
+    → VectorsOk (linesIn bytes) (gateWords bytes) (vectorWords bytes)
+unfolding setRows circuitSetRows gateWords vectorWords
+read-set bytes words vectors e =
+    let ok = read-ok bytes words vectors e in
+    let gates = length-words (3 * gatesIn bytes) bytes 28 in
+    let many = length-words (vectorsIn bytes) bytes (28 + 12 * gatesIn bytes) in
+    vectors-ok (linesIn bytes) (gateWords bytes) (vectorWords bytes)
+    (rw (
+      lines-right (linesIn bytes) (λ z. omega (arith, ok .head .some-lines)) (ok .head .lines-fit),
+      sizes-right (gateWords bytes) (length (vectorWords bytes)) (omega (arith, gates, ok .head .gates-fit)) (omega (arith, many, ok .head .vectors-fit)),
+      eq-eqb _ 0 (ok .gates-good),
+      eq-eqb _ 0 (ok .vectors-good),
+    ))
+
+-- what a reading that answers leaves in the lists
+pub record JobRead (bytes gates vectors : List ℕ) (n k d m : ℕ) : Type 0 where
+  pub passed : fine ≡ firstOf (readRows bytes 3072 2048) fine
+  pub lines-are : n ≡ linesIn bytes
+  pub classes-are : k ≡ classesIn bytes
+  pub gates-are : take (3 * d) gates ≡ gateWords bytes
+  pub vectors-are : take m vectors ≡ vectorWords bytes
+  pub gates-in : 3 * d ≤ 3072
+  pub vectors-in : m ≤ 2048
+
+module _ (bytes oldGates oldVectors gates vectors : List ℕ) (n k d m gateRoom vectorRoom : ℕ) where
+  pub job-read : gateRoom ≡ 3072 → vectorRoom ≡ 2048
+      → answered (n ∷ k ∷ d ∷ m ∷ []) ≡ firstOf (readRows bytes gateRoom vectorRoom)
+      (answered (linesIn bytes ∷ classesIn bytes ∷ gatesIn bytes ∷ vectorsIn bytes ∷ []))
+      → gates ≡ after (readRows bytes gateRoom vectorRoom) (gateWords bytes ++ drop (3 * gatesIn bytes) oldGates) oldGates
+      → vectors ≡ after (readRows bytes gateRoom vectorRoom) (vectorWords bytes ++ drop (vectorsIn bytes) oldVectors) oldVectors
+      → JobRead bytes gates vectors n k d m
+  unfolding gatesIn vectorsIn
+  job-read p q e g v =
+      let rows = readRows bytes gateRoom vectorRoom in
+      let w = answered-fine rows _ _ e in
+      let fits = read-ok bytes gateRoom vectorRoom (w .1) in
+      let same : d ≡ gatesIn bytes = cc in
+      let many : m ≡ vectorsIn bytes = cc in
+      record {
+        passed = rw (p, q) at (w .1);
+        lines-are = cc;
+        classes-are = cc;
+        gates-are = gates-front bytes gates _ d (g ∙ sym (after-fine rows _ _ (w .1))) same;
+        vectors-are = vectors-front bytes vectors _ m (v ∙ sym (after-fine rows _ _ (w .1))) many;
+        gates-in = omega (arith, same, fits .gates-room);
+        vectors-in = omega (arith, many, fits .vectors-room);
+      }
+
+module _ (bytes gates vectors : List ℕ) (n k d m : ℕ) (w : JobRead bytes gates vectors n k d m) where
+  -- it breaks no rule of the judge
+  pub job-sound : Sound n (take (3 * d) gates) × (All (λ x. x < 2 ^ n) (take m vectors) × (length (take m vectors) ≤ 2048))
+  job-sound = let ok = read-set bytes 3072 2048 (w .passed) in
+      rw (w .lines-are, w .gates-are, w .vectors-are) (ok .set .circuit, (ok .vectors, ok .set .vectors-fit))
+
+  pub job-text : jobText n k (take (3 * d) gates) (take m vectors) ≡ reportText bytes
+  job-text = rw (w .lines-are, w .classes-are, w .gates-are, w .vectors-are) (report-job bytes (w .passed))
+
+-- equal texts are put alike
+pub text-as : (text last : List ℕ) (end : ℕ) {t u : List ℕ} → t ≡ u → (end ≡ length t) × (last ≡ sets text 0 t) → (end ≡ length u) × (last ≡ sets text 0 u)
+text-as text last end same h = rw (← same) h
+
+-- ---- the call
+
+text-of-fits : (bytes : List ℕ) (told : Told) → told ≡ firstOf (readRows bytes 3072 2048) fine
+    → length (textOf told (jobText (linesIn bytes) (classesIn bytes) (gateWords bytes) (vectorWords bytes))) ≤ 100
+text-of-fits bytes (refused number place) e = refused-fits number place
+text-of-fits bytes (answered values) e =
+    let ok = read-set bytes 3072 2048 (answered-fine (readRows bytes 3072 2048) values [] e .1) in
+    job-fits (linesIn bytes) (classesIn bytes) (gateWords bytes) (vectorWords bytes) (ok .set .circuit) (ok .set .vectors-fit)
+
+-- the longest report
+pub report-fits : (bytes : List ℕ) → length (reportText bytes) ≤ 100
+unfolding reportText
+report-fits bytes = text-of-fits bytes (firstOf (readRows bytes 3072 2048) fine) refl
+
+-- the text in its array of 100 bytes
+pub text-end : (bytes last : List ℕ) (end : ℕ) → end ≡ length (reportText bytes) → last ≡ sets (replicate 100 0) 0 (reportText bytes)
+    → (end ≤ length last) × (take end last ≡ reportText bytes)
+text-end bytes last end e f =
+    let fits = report-fits bytes in (
+      rw (f, length-sets (replicate 100 0) 0 (reportText bytes)) (omega (arith, fits, e)),
+      rw (f, e, sets-front (replicate 100 0) (reportText bytes) (omega (arith, fits))) (take-append-seam (reportText bytes) _),
+    )
+
+module _ (bytes out : List ℕ) (end : ℕ) (is : end ≡ length (reportText bytes)) where
+  abbrev rows : List Row
+  rows = reportRows bytes (length out)
+
+  abbrev made : List ℕ
+  made = reportText bytes ++ drop (length (reportText bytes)) out
+
+  pub report-short : length out < end → (refused 10 0 ≡ firstOf rows (answered (length (reportText bytes) ∷ []))) × (out ≡ after rows made out)
+  unfolding reportRows
+  report-short h = rw (lt-ltb (length out) (length (reportText bytes)) (omega arith)) (refl, refl)
+
+  pub report-put : end ≤ length out → (last : List ℕ) → last ≡ sets out 0 (reportText bytes)
+      → (answered (end ∷ []) ≡ firstOf rows (answered (length (reportText bytes) ∷ []))) × (last ≡ after rows made out)
+  unfolding reportRows
+  report-put h last e =
+      rw (le-ltb (length out) (length (reportText bytes)) (omega arith)) (ap (λ n. answered (n ∷ [])) is, e ∙ sets-front out (reportText bytes) (omega arith))
+
+-- ---- what callers may lean on
+
+-- a report that is told has at most 100 bytes
+pub told-fits : (bytes : List ℕ) (room end : ℕ) → answered (end ∷ []) ≡ firstOf (reportRows bytes room) (answered (length (reportText bytes) ∷ []))
+    → end ≤ 100
+told-fits bytes room end e =
+    let w = answered-fine (reportRows bytes room) (end ∷ []) (length (reportText bytes) ∷ []) e .0 in
+    let same : end ≡ length (reportText bytes) = cc in
+    omega (arith, same, report-fits bytes)
+
+-- a job is refused by rules 1 to 8 alone: there is room for the longest
+abbrev roomRows : List ℕ → List Row
+roomRows bytes = refuse 10 at 0 when badRoom bytes 3072 2048 ∷ []
+
+in-parts : (bytes : List ℕ) → readRows bytes 3072 2048 ≡ (headerRows bytes ++ contentRowsIn bytes) ++ roomRows bytes
+unfolding readRows headerRows contentRowsIn contentRows badLines badCounts badRoom
+in-parts bytes = refl
+
+room-fine : (bytes : List ℕ) → fine ≡ firstOf (headerRows bytes) fine → firstOf (roomRows bytes) fine ≡ fine
+unfolding badRoom
+room-fine bytes e =
+    let h = header-ok bytes e in
+    rw (le-ltb 3072 (3 * gatesIn bytes) (omega (arith, h .gates-fit)), le-ltb 2048 (vectorsIn bytes) (h .vectors-fit))
+
+by-told : (bytes : List ℕ) (told : Told) → told ≡ firstOf (headerRows bytes ++ contentRowsIn bytes) fine
+    → told ≡ firstOf ((headerRows bytes ++ contentRowsIn bytes) ++ roomRows bytes) fine
+by-told bytes (refused k p) e = refused-on (headerRows bytes ++ contentRowsIn bytes) (roomRows bytes) fine k p e
+by-told bytes (answered values) e =
+    let passed = answered-fine (headerRows bytes ++ contentRowsIn bytes) values [] e .1 in
+    let header = fine-parts (headerRows bytes) (contentRowsIn bytes) passed .0 in
+    e ∙ sym passed ∙ sym (fine-on (headerRows bytes ++ contentRowsIn bytes) (roomRows bytes) fine passed ∙ room-fine bytes header)
+
+pub rules-1-to-8 : (bytes : List ℕ) → firstOf (readRows bytes 3072 2048) fine ≡ firstOf (headerRows bytes ++ contentRowsIn bytes) fine
+rules-1-to-8 bytes = rw (in-parts bytes) (sym (by-told bytes (firstOf (headerRows bytes ++ contentRowsIn bytes) fine) refl))

@@ -1,0 +1,135 @@
+-- Laws of numbers and lines as bytes: what code puts, byte by byte, is the text.
+use Prim.Native.Nat.{ℕ, zero, suc, _+_, _-_, _/_, _%_, _^_, _<_, _≤_}
+use mathlib.Core.Path.{_≡_, refl, ap, sym, _∙_}
+use mathlib.Core.Bool.{Bool, true, false}
+use mathlib.Core.List.{List, [], _∷_, _++_, append-assoc}
+use native.Mathlib.Numerals.{add-one}
+use native.Mathlib.Omega.{arith}
+use native.Mathlib.Nat.{pow-suc}
+use lib.ListN.{length, drop, set, getD, length-append, drop-of-length-le}
+use lib.Seq.{drop-cons, sets}
+use lib.Dec.{ltb}
+use borrow.Author.Tests.{lt-ltb, le-ltb}
+use Rattle.basics.specs.Choice.{pick}
+use Rattle.basics.specs.Lists.{each}
+use Rattle.basics.proofs.Tests.{by-test}
+use Rattle.job.proofs.ByteLaws.{sets-append}
+use Rattle.report_text.specs.Text.{digit, decimalIn, decimal, field, line}
+use Rattle.report_text.specs.Parts.{okText, numbersLine}
+
+-- ---- numbers
+
+-- a place more than a number needs changes nothing
+pub enough : (places x : ℕ) → 1 ≤ places → x < 10 ^ places → decimalIn (suc places) x ≡ decimalIn places x
+unfolding decimalIn
+enough zero x p h = absurd (omega arith)
+enough (suc zero) x p h = rw (lt-ltb x 10 (omega (arith, pow-suc 10 0)))
+enough (suc (suc places)) x p h =
+    ap (λ more. pick (ltb x 10) (digit x ∷ []) (more ++ (digit (x % 10) ∷ [])))
+    (enough (suc places) (x / 10) (omega arith) (omega (arith, pow-suc 10 (suc places))))
+
+decimal-small : (x : ℕ) → x < 10 → decimal x ≡ digit x ∷ []
+unfolding decimal decimalIn
+decimal-small x h = rw (lt-ltb x 10 h)
+
+first-place : (places x : ℕ) → 10 ≤ x → decimalIn (suc places) x ≡ decimalIn places (x / 10) ++ (digit (x % 10) ∷ [])
+unfolding decimalIn
+first-place places x h = rw (le-ltb x 10 h)
+
+pub decimal-more : (x : ℕ) → 10 ≤ x → x < 2 ^ 32 → decimal x ≡ decimal (x / 10) ++ (digit (x % 10) ∷ [])
+unfolding decimal
+decimal-more x h k =
+    first-place 9 x h ∙ ap (λ more. more ++ (digit (x % 10) ∷ [])) (sym (enough 9 (x / 10) (omega arith) (omega arith)))
+
+-- a number has at most so many digits
+pub digits-most : (places x : ℕ) → length (decimalIn places x) ≤ places
+unfolding decimalIn
+digits-most zero x = omega arith
+digits-most (suc places) x =
+    by-test (ltb x 10)
+    (λ e. rw e (omega arith))
+    (λ e. rw (e, length-append (decimalIn places (x / 10)) (digit (x % 10) ∷ [])) (omega (arith, digits-most places (x / 10))))
+
+-- ---- what is put, byte by byte
+
+-- equal texts have equal room, and are put alike
+pub room-as : (at room : ℕ) {t u : List ℕ} → t ≡ u → at + length u ≤ room → at + length t ≤ room
+room-as at room same h = rw same h
+
+pub put-as : (at end : ℕ) (out last : List ℕ) {t u : List ℕ} → t ≡ u
+    → (end ≡ at + length t) × (last ≡ sets out at t) → (end ≡ at + length u) × (last ≡ sets out at u)
+put-as at end out last same h = rw (← same) h
+
+pub put-small : (out : List ℕ) (at x : ℕ) → x < 10 → (at + 1 ≡ at + length (decimal x)) × (set out at (48 + x) ≡ sets out at (decimal x))
+unfolding digit
+put-small out at x h = rw (decimal-small x h) (refl, refl)
+
+pub put-last : (out : List ℕ) (at last x : ℕ) → 10 ≤ x → x < 2 ^ 32 → last ≡ at + length (decimal (x / 10))
+    → (last + 1 ≡ at + length (decimal x)) × (set (sets out at (decimal (x / 10))) last (48 + x % 10) ≡ sets out at (decimal x))
+unfolding digit
+put-last out at last x h k e =
+    rw (decimal-more x h k, length-append (decimal (x / 10)) ((48 + x % 10) ∷ []))
+    (omega arith, sets-append out at last (decimal (x / 10)) ((48 + x % 10) ∷ []) (sym e))
+
+-- the digits before the last leave room for it
+pub room-more : (x : ℕ) → 10 ≤ x → x < 2 ^ 32 → length (decimal x) ≡ length (decimal (x / 10)) + 1
+room-more x h k = rw (decimal-more x h k, length-append (decimal (x / 10)) (digit (x % 10) ∷ []))
+
+-- one field, and those that are left
+module _ (numbers : List ℕ) (i end next : ℕ) (h : i < length numbers) (e : next ≡ end + 1 + length (decimal (getD numbers i 0))) where
+  fields-left : each field (drop i numbers) ≡ field (getD numbers i 0) ++ each field (drop (i + 1) numbers)
+  unfolding each
+  fields-left = rw (drop-cons numbers i 0 h, add-one i)
+
+  pub fields-room : next + length (each field (drop (i + 1) numbers)) ≡ end + length (each field (drop i numbers))
+  unfolding field
+  fields-room = rw (fields-left, length-append (field (getD numbers i 0)) (each field (drop (i + 1) numbers))) (omega arith)
+
+  pub fields-put : (out : List ℕ)
+      → sets (sets (set out end 32) (end + 1) (decimal (getD numbers i 0))) next (each field (drop (i + 1) numbers))
+      ≡ sets out end (each field (drop i numbers))
+  unfolding field
+  fields-put out = rw (fields-left, add-one end)
+      (sets-append (set out end 32) (suc end) next (decimal (getD numbers i 0)) (each field (drop (i + 1) numbers)) (omega arith))
+
+-- the end of a line
+module _ (ok : Bool) where
+  pub end-ok : ok ≡ true → 32 ∷ 111 ∷ 107 ∷ 10 ∷ [] ≡ okText ok ++ (10 ∷ [])
+  unfolding okText
+  end-ok e = rw e
+
+  pub end-bare : ok ≡ false → 10 ∷ [] ≡ okText ok ++ (10 ∷ [])
+  unfolding okText
+  end-bare e = rw e
+
+-- a line is its letter, its fields and its end
+module _ (letter : ℕ) (numbers : List ℕ) (ok : Bool) where
+  line-parts : numbersLine letter numbers ok ≡ letter ∷ (each field numbers ++ (okText ok ++ (10 ∷ [])))
+  unfolding numbersLine line
+  line-parts = ap (λ rest. letter ∷ rest) (append-assoc (each field numbers) (okText ok) (10 ∷ []))
+
+  pub line-length : length (numbersLine letter numbers ok) ≡ 1 + (length (each field numbers) + length (okText ok ++ (10 ∷ [])))
+  line-length = rw (line-parts, length-append (each field numbers) (okText ok ++ (10 ∷ []))) (omega arith)
+
+  pub line-put : (out : List ℕ) (at end : ℕ) → end ≡ at + 1 + length (each field numbers)
+      → sets (sets (set out at letter) (at + 1) (each field numbers)) end (okText ok ++ (10 ∷ [])) ≡ sets out at (numbersLine letter numbers ok)
+  line-put out at end e = rw (line-parts, add-one at)
+      (sets-append (set out at letter) (suc at) end (each field numbers) (okText ok ++ (10 ∷ [])) (omega arith))
+
+-- ---- bytes as they are, one a turn
+
+pub put-start : (out bytes : List ℕ) (at : ℕ) → sets out (at + 0) (drop 0 bytes) ≡ sets out at bytes
+put-start out bytes at = let e : at + 0 ≡ at = omega arith in rw e
+
+pub put-turn : (out bytes : List ℕ) (at i : ℕ) → i < length bytes
+    → sets (set out (at + i) (getD bytes i 0)) (at + (i + 1)) (drop (i + 1) bytes) ≡ sets out (at + i) (drop i bytes)
+put-turn out bytes at i h = let e : at + (i + 1) ≡ suc (at + i) = omega arith in rw (e, drop-cons bytes i 0 h, add-one i)
+
+pub put-end : (out bytes : List ℕ) (at i : ℕ) → length bytes ≤ i → sets out (at + i) (drop i bytes) ≡ out
+put-end out bytes at i h = rw (drop-of-length-le bytes {i = i} h)
+
+-- no field is left
+pub fields-end : (numbers out : List ℕ) (i end : ℕ) → length numbers ≤ i
+    → (end + length (each field (drop i numbers)) ≡ end) × (sets out end (each field (drop i numbers)) ≡ out)
+unfolding each
+fields-end numbers out i end h = rw (drop-of-length-le numbers {i = i} h) (omega arith, refl)

@@ -1,0 +1,87 @@
+-- `report_text::classes::put_classes` meets its contract: each turn puts what one class has, and the classes left make the rest. Assumes nothing.
+use Prim.Native.Nat.{_+_, _-_, _≤_}
+use mathlib.Core.Path.{_≡_, refl, ap, sym, _∙_}
+use native.Mathlib.Omega.{arith}
+use lib.ListN.{length}
+use lib.Seq.{sets}
+use Rattle.basics.specs.Lists.{upFrom, each}
+use Rattle.circuit.specs.Gates.{gatesOf}
+use Rattle.report_text.specs.Report.{classText, wanted}
+use Rattle.report_text.specs.Parts.{wantedText}
+use Rattle.report_text.proofs.ClassLaws.{wanted-text, turn-room, turn-put, turn-end}
+use Rattle.report_text.proofs.classes.put_classes.Statement.{statement}
+use Rattle.report_text.proofs.classes.put_classes.Tie as tie
+
+abbrev Inv-loop : tie.InvT-loop
+Inv-loop out₀ at lines gates vectors classes end₀ class₀ out end class =
+    (1 ≤ class) × ((class ≤ 5) × ((length out ≡ length out₀)
+    × ((end + length (each (wantedText lines (gatesOf gates) vectors classes) (upFrom class (5 - class)))
+    ≡ at + length (each (classText lines (gatesOf gates) vectors) (wanted classes)))
+    × (sets out end (each (wantedText lines (gatesOf gates) vectors classes) (upFrom class (5 - class)))
+    ≡ sets out₀ at (each (classText lines (gatesOf gates) vectors) (wanted classes))))))
+
+abbrev μ-loop : tie.MeasureT-loop
+μ-loop out₀ at lines gates vectors classes end₀ class₀ out end class = 5 - class
+
+loop-holds : tie.Need-loop-holds Inv-loop μ-loop
+loop-holds c =
+    let a = c .before .before .before .args in
+    let w = wanted-text (a .lines) (gatesOf (a .gates .now)) (a .vectors .now) (a .classes) in
+    (omega arith, (omega arith, (refl, (ap (λ t. a .at + length t) (sym w), ap (sets (a .out .now) (a .at)) (sym w)))))
+
+put-wanted-requires : tie.Need-put-wanted-requires Inv-loop μ-loop
+put-wanted-requires c κs =
+    let l = c .before .before .loop in
+    let a = c .before .before .before .before .before .before in
+    let w = turn-room (a .args .lines) (gatesOf (a .args .gates .now)) (a .args .vectors .now) (a .args .classes) (l .class) (l .end) _ (omega arith) refl in
+    (a .pre .0, ((l .inv .0, (omega arith, a .pre .1 .0)), omega arith))
+
+add-class : tie.Need-add-class Inv-loop μ-loop
+add-class c = omega arith
+
+loop-less : tie.Need-loop-less Inv-loop μ-loop
+loop-less c = omega arith
+
+loop-again : tie.Need-loop-again Inv-loop μ-loop
+loop-again c =
+    let put = c .before .before .put-wanted in
+    let l = c .before .before .before .before .before .loop in
+    let a = c .before .before .before .before .before .before .before .before .before .args in
+    let gs = gatesOf (a .gates .now) in (
+      omega arith,
+      (
+        omega arith,
+        (
+          put .kept .0 ∙ l .inv .1 .1 .0,
+          (
+            turn-room (a .lines) gs (a .vectors .now) (a .classes) (l .class) (l .end) _ (omega arith) (put .ensures .0) ∙ l .inv .1 .1 .1 .0,
+            rw (put .ensures .1) (turn-put (a .lines) gs (a .vectors .now) (a .classes) (l .class) (l .end) _ (omega arith) (put .ensures .0) (l .out))
+                ∙ l .inv .1 .1 .1 .1,
+          ),
+        ),
+      ),
+    )
+
+same-length : tie.Need-same-length Inv-loop μ-loop
+same-length c = omega arith
+
+returns : tie.Need-returns Inv-loop μ-loop
+returns c =
+    let l = c .before .loop in
+    let a = c .before .before .before .before .before .args in
+    let w = turn-end (a .lines) (gatesOf (a .gates .now)) (a .vectors .now) (a .classes) (l .class) (l .end) (omega arith) (l .out) in
+    (sym (w .0) ∙ l .inv .1 .1 .1 .0, sym (w .1) ∙ l .inv .1 .1 .1 .1)
+
+pub put-classes-spec : {M : Type 1} → statement M
+put-classes-spec =
+    tie.close
+    (tie.spec
+    Inv-loop
+    μ-loop
+    loop-holds
+    put-wanted-requires
+    add-class
+    loop-less
+    loop-again
+    same-length
+    returns)

@@ -1,0 +1,5 @@
+pub mod Text
+pub mod Report
+pub mod Rules
+pub mod Parts
+pub mod Answers

@@ -1,0 +1,121 @@
+// The lines of the classes wanted.
+ghost use mathlib.Core.Path.{_≡_};
+ghost use Prim.Native.Nat.{_+_, _^_, _<_, _≤_};
+ghost use lib.ListN.{length};
+ghost use lib.Seq.{sets};
+ghost use Rattle.basics.specs.Lists.{All, each};
+ghost use Rattle.circuit.specs.Gates.{gatesOf};
+ghost use Rattle.circuit.specs.Sound.{Sound};
+ghost use Rattle.report_text.specs.Report.{letterOf, classText, wanted};
+ghost use Rattle.report_text.specs.Parts.{numbersOf, verdictText, wantedText};
+use crate::text::put_line;
+use judge::Verdict;
+use judge::sets::judge_class;
+use simulator::Fault;
+use words::checked::value;
+
+// The letter of a class.
+fn letter_of(class: u32) -> u8
+    ensures { λ r. ⌜ r ≡ letterOf class ⌝ }
+{
+    match class {
+        1 => b'S',
+        2 => b'M',
+        3 => b'C',
+        _ => b'X',
+    }
+}
+
+// How many numbers the line of a class with an uncaught fault has.
+fn numbers_of(class: u32) -> usize
+    ensures { λ r. ⌜ r ≡ numbersOf class ⌝ }
+{
+    match class {
+        1 => 5,
+        2 => 3,
+        _ => 4,
+    }
+}
+
+// The line of a class that is complete.
+fn put_complete(out: &mut [u8], at: usize, class: u32, caught: u32, total: u32) -> usize
+    requires { ⌜ at + length (verdictText class (Verdict.Complete caught total)) ≤ length (now out) ⌝ }
+    ensures { λ r. ⌜ (r ≡ at + length (verdictText class (Verdict.Complete caught total)))
+        × (now (out .exit) ≡ sets (now (out .entry)) at (verdictText class (Verdict.Complete caught total))) ⌝ }
+{
+    let numbers = [caught, total];
+    put_line(out, at, letter_of(class), &numbers, true)
+}
+
+// The line of a class with an uncaught fault.
+fn put_left(out: &mut [u8], at: usize, class: u32, caught: u32, total: u32, first: Fault) -> usize
+    requires { ⌜ at + length (verdictText class (Verdict.Left caught total first)) ≤ length (now out) ⌝ }
+    ensures { λ r. ⌜ (r ≡ at + length (verdictText class (Verdict.Left caught total first)))
+        × (now (out .exit) ≡ sets (now (out .entry)) at (verdictText class (Verdict.Left caught total first))) ⌝ }
+{
+    let numbers = [caught, total, first.place, first.line, first.value];
+    let count = numbers_of(class);
+    put_line(out, at, letter_of(class), &numbers[..count], false)
+}
+
+// The line of a verdict.
+fn put_verdict(out: &mut [u8], at: usize, class: u32, verdict: Verdict) -> usize
+    requires { ⌜ at + length (verdictText class verdict) ≤ length (now out) ⌝ }
+    ensures { λ r. ⌜ (r ≡ at + length (verdictText class verdict)) × (now (out .exit) ≡ sets (now (out .entry)) at (verdictText class verdict)) ⌝ }
+{
+    match verdict {
+        Verdict::Complete { caught, total } => put_complete(out, at, class, caught, total),
+        Verdict::Left {
+            caught,
+            total,
+            first,
+        } => put_left(out, at, class, caught, total, first),
+        Verdict::Refused(refusal) => at,
+    }
+}
+
+// The line of a class if it is wanted.
+fn put_wanted(
+    out: &mut [u8],
+    at: usize,
+    lines: u32,
+    gates: &[u32],
+    vectors: &[u32],
+    classes: u32,
+    class: u32,
+) -> usize
+    requires { ⌜ Sound lines (now gates) ⌝ }
+    requires { ⌜ (1 ≤ class) × ((class ≤ 4) × All (λ x. x < 2 ^ lines) (now vectors)) ⌝ }
+    requires { ⌜ at + length (wantedText lines (gatesOf (now gates)) (now vectors) classes class) ≤ length (now out) ⌝ }
+    ensures { λ r. ⌜ (r ≡ at + length (wantedText lines (gatesOf (now (gates .entry))) (now (vectors .entry)) classes class))
+        × (now (out .exit) ≡ sets (now (out .entry)) at (wantedText lines (gatesOf (now (gates .entry))) (now (vectors .entry)) classes class)) ⌝ }
+{
+    if value(classes, class - 1) == 0 {
+        return at;
+    }
+    put_verdict(out, at, class, judge_class(lines, gates, vectors, class))
+}
+
+// The lines of the classes wanted, in code order.
+pub fn put_classes(
+    out: &mut [u8],
+    at: usize,
+    lines: u32,
+    gates: &[u32],
+    vectors: &[u32],
+    classes: u32,
+) -> usize
+    requires { ⌜ Sound lines (now gates) ⌝ }
+    requires { ⌜ All (λ x. x < 2 ^ lines) (now vectors) ⌝ }
+    requires { ⌜ at + length (each (classText lines (gatesOf (now gates)) (now vectors)) (wanted classes)) ≤ length (now out) ⌝ }
+    ensures { λ r. ⌜ (r ≡ at + length (each (classText lines (gatesOf (now (gates .entry))) (now (vectors .entry))) (wanted classes)))
+        × (now (out .exit) ≡ sets (now (out .entry)) at (each (classText lines (gatesOf (now (gates .entry))) (now (vectors .entry))) (wanted classes))) ⌝ }
+{
+    let mut end = at;
+    let mut class = 1;
+    while class <= 4 {
+        end = put_wanted(out, end, lines, gates, vectors, classes, class);
+        class += 1;
+    }
+    end
+}

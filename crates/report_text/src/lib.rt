@@ -1,0 +1,91 @@
+// The report: from any bytes to the text of their verdict.
+ghost use mathlib.Core.Path.{_≡_};
+ghost use mathlib.Core.List.{[], _∷_, _++_};
+ghost use Prim.Native.Nat.{_^_, _<_, _≤_};
+ghost use lib.ListN.{length, drop};
+ghost use lib.Seq.{sets};
+ghost use Rattle.refusals.specs.Tables.{firstOf, after};
+ghost use Rattle.refusals.specs.Tables.Told.{answered};
+ghost use Rattle.basics.specs.Lists.{All};
+ghost use Rattle.circuit.specs.Sound.{Sound};
+ghost use Rattle.report_text.specs.Report.{reportText, refusedText, jobText};
+ghost use Rattle.report_text.specs.Rules.{reportRows};
+ghost use Rattle.report_text.specs.Answers.{toldReported};
+use crate::classes::put_classes;
+use crate::text::put_bytes;
+use crate::text::put_line;
+use job::Read;
+use refusals::Refusal;
+
+mod classes;
+mod text;
+
+// The number of bytes of the text.
+pub enum Reported {
+    Bytes(u32),
+    Refused(Refusal),
+}
+
+// The text of a job's report into the front of some bytes. A refused call changes nothing; a refused job is a text.
+pub fn report(bytes: &[u8], out: &mut [u8]) -> Reported
+    ensures { λ r. ⌜ (toldReported r ≡ firstOf
+        (reportRows (now (bytes .entry)) (length (now (out .entry))))
+        (answered (length (reportText (now (bytes .entry))) ∷ [])))
+        × (now (out .exit) ≡ after
+        (reportRows (now (bytes .entry)) (length (now (out .entry))))
+        (reportText (now (bytes .entry)) ++ drop (length (reportText (now (bytes .entry)))) (now (out .entry)))
+        (now (out .entry))) ⌝ }
+{
+    let mut text = [0u8; 100];
+    let end = put_report(bytes, &mut text);
+    if out.len() < end {
+        return Reported::Refused(Refusal {
+            number: 10,
+            place: 0,
+        });
+    }
+    put_bytes(out, 0, &text[..end]);
+    Reported::Bytes(end as u32)
+}
+
+// The report's text, and where it ends. It has at most 100 bytes.
+fn put_report(bytes: &[u8], text: &mut [u8; 100]) -> usize
+    ensures { λ r. ⌜ (r ≡ length (reportText (now (bytes .entry)))) × (now (text .exit) ≡ sets (now (text .entry)) 0 (reportText (now (bytes .entry)))) ⌝ }
+{
+    let mut gates = [0u32; 3072];
+    let mut vectors = [0u32; 2048];
+    match job::read_job(bytes, &mut gates, &mut vectors) {
+        Read::Refused(refusal) => put_refused(text, refusal),
+        Read::Job {
+            lines,
+            classes,
+            gates: d,
+            vectors: m,
+        } => {
+            let words = 3 * (d as usize);
+            let count = m as usize;
+            put_job(text, lines, classes, &gates[..words], &vectors[..count])
+        }
+    }
+}
+
+// The text of a refused job.
+fn put_refused(text: &mut [u8; 100], refusal: Refusal) -> usize
+    ensures { λ r. ⌜ (r ≡ length (refusedText (refusal .number) (refusal .place)))
+        × (now (text .exit) ≡ sets (now (text .entry)) 0 (refusedText (refusal .number) (refusal .place))) ⌝ }
+{
+    let numbers = [refusal.number, refusal.place];
+    put_line(text, 0, b'E', &numbers, false)
+}
+
+// The text of a job that breaks no rule.
+fn put_job(text: &mut [u8; 100], lines: u32, classes: u32, gates: &[u32], vectors: &[u32]) -> usize
+    requires { ⌜ Sound lines (now gates) ⌝ }
+    requires { ⌜ All (λ x. x < 2 ^ lines) (now vectors) × (length (now vectors) ≤ 2048) ⌝ }
+    ensures { λ r. ⌜ (r ≡ length (jobText lines classes (now (gates .entry)) (now (vectors .entry))))
+        × (now (text .exit) ≡ sets (now (text .entry)) 0 (jobText lines classes (now (gates .entry)) (now (vectors .entry)))) ⌝ }
+{
+    let numbers = [lines, (gates.len() / 3) as u32, vectors.len() as u32];
+    let end = put_line(text, 0, b'J', &numbers, false);
+    put_classes(text, end, lines, gates, vectors, classes)
+}
