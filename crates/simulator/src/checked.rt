@@ -110,6 +110,13 @@ fn catches_stuck_at(lines: u32, gates: &[u32], vector: u32, fault: Fault) -> boo
     words::checked::value(state, fault.line) != fault.value
 }
 
+// Whether a missing gate shows in the state that it would read: where all its controls are 1.
+fn shows_missing(gate: Gate, state: u32) -> bool
+    ensures { λ r. ⌜ r ≡ fires gate state ⌝ }
+{
+    fires(gate, state)
+}
+
 // Whether all controls of a gate are 1 at the level it reads.
 fn catches_missing_gate(lines: u32, gates: &[u32], vector: u32, gate: GateNumber) -> bool
     requires { ⌜ Sound lines (now gates) ⌝ }
@@ -117,7 +124,7 @@ fn catches_missing_gate(lines: u32, gates: &[u32], vector: u32, gate: GateNumber
     ensures { λ r. ⌜ r ≡ fires (gateAt (gatesOf (now (gates .entry))) (gate .0)) (forward (gatesOf (now (gates .entry))) (gate .0 - 1) vector) ⌝ }
 {
     let state = run_forward(lines, gates, numbers::level_read(gate), vector);
-    fires(gate_at(gates, gate), state)
+    shows_missing(gate_at(gates, gate), state)
 }
 
 // Whether a line is 0 at the level that a gate reads, and all controls of a gate in its place are 1.
