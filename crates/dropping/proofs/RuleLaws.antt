@@ -36,13 +36,21 @@ bad-row true k p e = refl
 bad-row false k p e = let z : _≡_ {A = ℕ} 0 1 = cc in absurd (omega arith)
 
 module _ (n : ℕ) (words : List ℕ) (f : Fault) where
-  pub bad-told : (k p : ℕ) → refused k p ≡ firstOf (faultRows n words f) fine → true ≡ badRecord n (gatesOf words) f
+  bad-told : (k p : ℕ) → refused k p ≡ firstOf (faultRows n words f) fine → true ≡ badRecord n (gatesOf words) f
   unfolding badRecord faultRows
   bad-told k p e = bad-row (not (isFault n (gatesOf words) f)) k p e
 
-  pub good-told : fine ≡ firstOf (faultRows n words f) fine → false ≡ badRecord n (gatesOf words) f
+  good-told : fine ≡ firstOf (faultRows n words f) fine → false ≡ badRecord n (gatesOf words) f
   unfolding badRecord
   good-told e = sym (ap not (fault-ok n words f e))
+
+  pub blank-bad : f .class ≡ 0 → true ≡ badRecord n (gatesOf words) f
+  unfolding badRecord isFault
+  blank-bad e = rw e
+
+  pub record-told : (k : Checked) → found k ≡ firstOf (faultRows n words f) fine → isWrong k ≡ badRecord n (gatesOf words) f
+  record-told Fine e = good-told e
+  record-told (Wrong r) e = bad-told _ _ e
 
 -- ---- calls whose rules none is broken
 

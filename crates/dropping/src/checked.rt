@@ -48,6 +48,17 @@ pub fn put_record(list: &mut [u32], ahead: usize, fault: Fault)
     list[at + 3] = fault.value;
 }
 
+// Writes a record that stays behind the others that stay: how many then stay.
+fn keep_record(list: &mut [u32], left: usize, fault: Fault) -> usize
+    requires { ⌜ 4 * left + 4 ≤ length (now list) ⌝ }
+    ensures { λ r. ⌜ (r ≡ left + 1)
+        × ((faultsOf (now (list .exit)) ≡ set (faultsOf (now (list .entry))) left fault)
+        × (length (now (list .exit)) ≡ length (now (list .entry)))) ⌝ }
+{
+    put_record(list, left, fault);
+    left + 1
+}
+
 // Blanks the record after so many others, and writes it behind those that stay if it stays too: how many then stay.
 pub fn take_record(
     lines: u32,
@@ -69,8 +80,7 @@ pub fn take_record(
     let fault = record_at(list, ahead);
     put_record(list, ahead, blank());
     if stays(lines, gates, vector, fault) {
-        put_record(list, left, fault);
-        return left + 1;
+        return keep_record(list, left, fault);
     }
     left
 }

@@ -8,21 +8,22 @@ ghost use Rattle.circuit.specs.Gates.{gatesOf};
 ghost use Rattle.circuit.specs.Sound.{Sound};
 ghost use Rattle.simulator.specs.Rules.{firstBadRecord};
 ghost use Rattle.dropping.specs.Rules.{badRecord, recordRows, dropRows};
+use crate::is_wrong;
 use circuit::rules::check_vector;
 use refusals::Checked;
 use simulator::Fault;
 use simulator::records::record_at;
 use simulator::rules::check_fault;
 
-// Whether a record is no fault of the circuit.
+// Whether a record is no fault of the circuit: a blank one is none, and of any other rule 9 tells.
 pub fn bad_record(lines: u32, gates: &[u32], fault: Fault) -> bool
     requires { ⌜ Sound lines (now gates) ⌝ }
     ensures { λ r. ⌜ r ≡ badRecord lines (gatesOf (now (gates .entry))) fault ⌝ }
 {
-    match check_fault(lines, gates, fault) {
-        Checked::Wrong(refusal) => true,
-        Checked::Fine => false,
+    if fault.class == 0 {
+        return true;
     }
+    is_wrong(check_fault(lines, gates, fault))
 }
 
 // The place of the first bad record of a plain list, and 0 where none is bad; numbers left over are one more bad record.

@@ -1,7 +1,7 @@
 // The job image: jobs read out of bytes and written into bytes.
 ghost use mathlib.Core.Path.{_≡_};
 ghost use mathlib.Core.List.{[], _∷_, _++_};
-ghost use Prim.Native.Nat.{_*_};
+ghost use Prim.Native.Nat.{_*_, _≤_};
 ghost use lib.ListN.{length, drop};
 ghost use Rattle.refusals.specs.Tables.{firstOf, after};
 ghost use Rattle.refusals.specs.Tables.Told.{answered};
@@ -48,7 +48,36 @@ pub fn read_job(bytes: &[u8], gates: &mut [u32], vectors: &mut [u32]) -> Read
         (vectorWords (now (bytes .entry)) ++ drop (vectorsIn (now (bytes .entry))) (now (vectors .entry)))
         (now (vectors .entry)))) ⌝ }
 {
-    match rules::check_read(bytes, gates.len(), vectors.len()) {
+    let mut own_gates = [0u32; 3072];
+    let mut own_vectors = [0u32; 2048];
+    read_by_own(bytes, &mut own_gates, &mut own_vectors, gates, vectors)
+}
+
+// The same by lists of its own: what is checked is read into those, and the lent lists are written once all rules have passed.
+fn read_by_own(
+    bytes: &[u8],
+    own_gates: &mut [u32],
+    own_vectors: &mut [u32],
+    gates: &mut [u32],
+    vectors: &mut [u32],
+) -> Read
+    requires { ⌜ (3072 ≤ length (now «own_gates»)) × (2048 ≤ length (now «own_vectors»)) ⌝ }
+    ensures { λ r. ⌜ (toldRead r ≡ firstOf
+        (readRows (now (bytes .entry)) (length (now (gates .entry))) (length (now (vectors .entry))))
+        (answered (linesIn (now (bytes .entry)) ∷ classesIn (now (bytes .entry))
+        ∷ gatesIn (now (bytes .entry)) ∷ vectorsIn (now (bytes .entry)) ∷ [])))
+        × ((now (gates .exit) ≡ after
+        (readRows (now (bytes .entry)) (length (now (gates .entry))) (length (now (vectors .entry))))
+        (gateWords (now (bytes .entry)) ++ drop (3 * gatesIn (now (bytes .entry))) (now (gates .entry)))
+        (now (gates .entry)))
+        × (now (vectors .exit) ≡ after
+        (readRows (now (bytes .entry)) (length (now (gates .entry))) (length (now (vectors .entry))))
+        (vectorWords (now (bytes .entry)) ++ drop (vectorsIn (now (bytes .entry))) (now (vectors .entry)))
+        (now (vectors .entry)))) ⌝ }
+{
+    let words = gates.len();
+    let count = vectors.len();
+    match rules::check_read(bytes, own_gates, own_vectors, words, count) {
         Checked::Wrong(refusal) => Read::Refused(refusal),
         Checked::Fine => reading::read_image(bytes, gates, vectors),
     }

@@ -147,16 +147,6 @@ fn check_read_into(image: &[u8], gates: &mut [u32], vectors: &mut [u32]) -> Chec
     check_content(lines, &gates[..words], &vectors[..count])
 }
 
-// Rules 7 and 8 of a job that is read.
-fn check_words(image: &[u8]) -> Checked
-    requires { ⌜ fine ≡ firstOf (headerRows (now image)) fine ⌝ }
-    ensures { λ r. ⌜ found r ≡ firstOf (contentRowsIn (now (image .entry))) fine ⌝ }
-{
-    let mut gates = [0u32; 3072];
-    let mut vectors = [0u32; 2048];
-    check_read_into(image, &mut gates, &mut vectors)
-}
-
 // Whether room for so many words and so many vectors is too little for a job.
 fn bad_room(image: &[u8], words: usize, vectors: usize) -> bool
     requires { ⌜ 28 ≤ length (now image) ⌝ }
@@ -167,15 +157,22 @@ fn bad_room(image: &[u8], words: usize, vectors: usize) -> bool
     words < words_in || vectors < vectors_in
 }
 
-// All rules of a job that is read into room for so many words and so many vectors.
-pub fn check_read(image: &[u8], words: usize, vectors: usize) -> Checked
-    ensures { λ r. ⌜ found r ≡ firstOf (readRows (now (image .entry)) words vectors) fine ⌝ }
+// All rules of a job that is read into room for so many words and so many vectors, by lists of words that it is read into first.
+pub fn check_read(
+    image: &[u8],
+    gates: &mut [u32],
+    vectors: &mut [u32],
+    words: usize,
+    count: usize,
+) -> Checked
+    requires { ⌜ (3072 ≤ length (now gates)) × (2048 ≤ length (now vectors)) ⌝ }
+    ensures { λ r. ⌜ found r ≡ firstOf (readRows (now (image .entry)) words count) fine ⌝ }
 {
     if let Checked::Wrong(refusal) = check_header(image) {
         return Checked::Wrong(refusal);
     }
-    let content = check_words(image);
-    let room = refusals::unless(!bad_room(image, words, vectors), 10, 0);
+    let content = check_read_into(image, gates, vectors);
+    let room = refusals::unless(!bad_room(image, words, count), 10, 0);
     sooner(content, room)
 }
 

@@ -60,10 +60,7 @@ impl Coverage {
             × (r .coverage ≡ after (circuitRows lines (now (gates .entry)) ++ vectorRows lines vector) (withVector self lines (gatesOf (now (gates .entry))) vector) self) ⌝ }
     {
         match check_vector(lines, gates, vector) {
-            Checked::Wrong(refusal) => Covered {
-                refusal,
-                coverage: self,
-            },
+            Checked::Wrong(refusal) => self.beside(refusal),
             Checked::Fine => {
                 let coverage = self.marked(lines, gates, vector);
                 Covered {
@@ -85,6 +82,16 @@ impl Coverage {
         match rules::check_count(lines, gates, class) {
             Checked::Wrong(refusal) => Verdict::Refused(refusal),
             Checked::Fine => self.counted(lines, gates, class),
+        }
+    }
+
+    // The same coverage beside a refusal.
+    fn beside(self, refusal: Refusal) -> Covered
+        ensures { λ r. ⌜ (r .refusal ≡ refusal) × (r .coverage ≡ self) ⌝ }
+    {
+        Covered {
+            refusal,
+            coverage: self,
         }
     }
 

@@ -1,6 +1,6 @@
 -- Laws of runs with several stuck lines, a turn at a time: an entry of a level, and a level of the run.
 use Prim.Native.Nat.{ℕ, _+_, _≤_, _<_}
-use mathlib.Core.Path.{_≡_}
+use mathlib.Core.Path.{_≡_, ap, sym, _∙_}
 use mathlib.Core.List.{List}
 use native.Mathlib.Numerals.{add-one}
 use native.Mathlib.Omega.{arith}
@@ -11,9 +11,10 @@ use Rattle.basics.specs.Choice.{pick}
 use Rattle.basics.proofs.All.{all-at}
 use Rattle.words.specs.Word.{force}
 use Rattle.circuit.specs.Gates.{gatesOf, noGate}
-use Rattle.circuit.specs.Runs.{step}
+use Rattle.circuit.specs.Runs.{step, forward}
 use Rattle.circuit.specs.Sound.{Sound}
 use Rattle.circuit.specs.declared.Gate.{Gate}
+use Rattle.circuit.proofs.RunLaws.{onward-more, onward-forward}
 use Rattle.simulator.specs.Faults.{forceAt, stuckRun}
 use Rattle.simulator.specs.Rules.{faultsOf, noFault}
 use Rattle.simulator.specs.Entries.{StuckOk, Entries}
@@ -46,3 +47,8 @@ pub entry-line : (n : ℕ) (words list : List ℕ) (i : ℕ) → Sound n words �
 entry-line n words list i ok entries h =
     let f = all-at (StuckOk n (length (gatesOf words))) (faultsOf list) i noFault h (entries .entries-ok) in
     omega arith
+
+-- the good run beside it, one level more
+pub good-more : (gs : List Gate) (i x s : ℕ) → i < length gs → s ≡ forward gs i x → step (getD gs i noGate) s ≡ forward gs (i + 1) x
+good-more gs i x s h here =
+    ap (step (getD gs i noGate)) (here ∙ sym (onward-forward gs i x)) ∙ sym (onward-more gs 0 i x (omega arith) h) ∙ onward-forward gs (i + 1) x

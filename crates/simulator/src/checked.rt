@@ -110,6 +110,13 @@ fn catches_stuck_at(lines: u32, gates: &[u32], vector: u32, fault: Fault) -> boo
     words::checked::value(state, fault.line) != fault.value
 }
 
+// Whether a missing gate shows in the state that it would read: where all its controls are 1.
+fn shows_missing(gate: Gate, state: u32) -> bool
+    ensures { λ r. ⌜ r ≡ fires gate state ⌝ }
+{
+    fires(gate, state)
+}
+
 // Whether all controls of a gate are 1 at the level it reads.
 fn catches_missing_gate(lines: u32, gates: &[u32], vector: u32, gate: GateNumber) -> bool
     requires { ⌜ Sound lines (now gates) ⌝ }
@@ -117,7 +124,7 @@ fn catches_missing_gate(lines: u32, gates: &[u32], vector: u32, gate: GateNumber
     ensures { λ r. ⌜ r ≡ fires (gateAt (gatesOf (now (gates .entry))) (gate .0)) (forward (gatesOf (now (gates .entry))) (gate .0 - 1) vector) ⌝ }
 {
     let state = run_forward(lines, gates, numbers::level_read(gate), vector);
-    fires(gate_at(gates, gate), state)
+    shows_missing(gate_at(gates, gate), state)
 }
 
 // Whether a line is 0 at the level that a gate reads, and all controls of a gate in its place are 1.
@@ -191,24 +198,43 @@ fn force_level(lines: u32, gates: &[u32], entries: &[u32], level: u32, state: u3
     now
 }
 
-// The output with several lines stuck.
-pub fn run_stuck(lines: u32, gates: &[u32], entries: &[u32], vector: u32) -> u32
+// The good state and the faulty one, side by side.
+pub struct Both {
+    good: u32,
+    faulty: u32,
+}
+
+// The lines stuck at a level, forced in the faulty state alone.
+fn force_faulty(lines: u32, gates: &[u32], entries: &[u32], level: u32, both: Both) -> Both
     requires { ⌜ Sound lines (now gates) ⌝ }
     requires { ⌜ Entries lines (gatesOf (now gates)) (now entries) ⌝ }
-    ensures { λ r. ⌜ r ≡ stuckRun (faultsOf (now (entries .entry))) 0 (gatesOf (now (gates .entry))) vector ⌝ }
+    ensures { λ r. ⌜ (r .good ≡ both .good) × (r .faulty ≡ forceAt (faultsOf (now (entries .entry))) level (both .faulty)) ⌝ }
+{
+    Both {
+        good: both.good,
+        faulty: force_level(lines, gates, entries, level, both.faulty),
+    }
+}
+
+// The good output, and the output with several lines stuck.
+pub fn run_stuck(lines: u32, gates: &[u32], entries: &[u32], vector: u32) -> Both
+    requires { ⌜ Sound lines (now gates) ⌝ }
+    requires { ⌜ Entries lines (gatesOf (now gates)) (now entries) ⌝ }
+    ensures { λ r. ⌜ (r .good ≡ run (gatesOf (now (gates .entry))) vector)
+        × (r .faulty ≡ stuckRun (faultsOf (now (entries .entry))) 0 (gatesOf (now (gates .entry))) vector) ⌝ }
 {
     let end = gates.len() / 3;
-    let mut state = vector;
+    let mut good = vector;
+    let mut faulty = vector;
     let mut i = 0;
     while i < end {
-        let forced = force_level(lines, gates, entries, i as u32, state);
-        state = step(
-            gate_at(gates, numbers::gate_after(numbers::level(i))),
-            forced,
-        );
+        let forced = force_faulty(lines, gates, entries, i as u32, Both { good, faulty });
+        let gate = gate_at(gates, numbers::gate_after(numbers::level(i)));
+        good = step(gate, forced.good);
+        faulty = step(gate, forced.faulty);
         i += 1;
     }
-    force_level(lines, gates, entries, end as u32, state)
+    force_faulty(lines, gates, entries, end as u32, Both { good, faulty })
 }
 
 // Whether a vector catches several stuck lines together: the whole faulty run decides.
@@ -217,8 +243,8 @@ pub fn catches_multiple(lines: u32, gates: &[u32], vector: u32, entries: &[u32])
     requires { ⌜ Entries lines (gatesOf (now gates)) (now entries) ⌝ }
     ensures { λ r. ⌜ r ≡ caughtTogether (gatesOf (now (gates .entry))) (faultsOf (now (entries .entry))) vector ⌝ }
 {
-    let good = run_forward(lines, gates, numbers::level(gates.len() / 3), vector);
-    run_stuck(lines, gates, entries, vector) != good
+    let both = run_stuck(lines, gates, entries, vector);
+    both.faulty != both.good
 }
 
 // Whether the test for a fault wants a line at 0.

@@ -28,11 +28,8 @@ stays-requires c κs =
           .before .before .before .before .before .before .before .before .before .pre .1 .1,
     )
 
-put-record-requires-2 : tie.Need-put-record-requires-2
-put-record-requires-2 c κs = search needs
-
-add-result : tie.Need-add-result
-add-result c = search needs
+keep-record-requires : tie.Need-keep-record-requires
+keep-record-requires c κs = search needs
 
 same-length : tie.Need-same-length
 same-length c = search needs
@@ -45,12 +42,12 @@ returns c =
     let stays = stays-is (gatesOf (a .gates .now)) (a .vector) fs (a .ahead) (first .result) _ (first .ensures)
     (c .before .before .before .before .before .stays .ensures) ∙ c .before .before .before .before .if1 .taken in
     let blanked = c .before .before .before .before .before .before .before .before .put-record .ensures in
-    let put = c .before .before .put-record2 .ensures in (
-      ap (λ b. a .left + count b) (sym stays),
+    let put = c .before .before .keep-record .ensures in (
+      put .0 ∙ ap (λ b. a .left + count b) (sym stays),
       (
-        put .0 ∙ ap (λ l. set l (a .left) (first .result)) (blanked .0) ∙ taken-stays fs (a .ahead) (a .left) (first .result) _
+        put .1 .0 ∙ ap (λ l. set l (a .left) (first .result)) (blanked .0) ∙ taken-stays fs (a .ahead) (a .left) (first .result) _
             (c .before .before .before .before .before .before .before .before .before .blank .ensures) _ (first .ensures) stays,
-        put .1 ∙ blanked .1,
+        put .1 .1 ∙ blanked .1,
       ),
     )
 
@@ -81,8 +78,7 @@ take-record-spec =
     blank-requires
     put-record-requires
     stays-requires
-    put-record-requires-2
-    add-result
+    keep-record-requires
     same-length
     returns
     same-length-2

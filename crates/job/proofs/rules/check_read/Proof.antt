@@ -18,11 +18,14 @@ returns c = read-header _ _ _ _ _ (ap found (sym (c .before .refusal .given .1))
 enum-told : tie.Need-enum-told
 enum-told c = search needs
 
-check-words-requires : tie.Need-check-words-requires
-check-words-requires c κs = ap found (sym (c .enum-told .given .1)) ∙ c .before .before .check-header .ensures
+check-read-into-requires : tie.Need-check-read-into-requires
+check-read-into-requires c κs =
+    (ap found (sym (c .before .before .enum-told .given .1)) ∙ c .before .before .before .before .check-header .ensures, search needs)
 
 bad-room-requires : tie.Need-bad-room-requires
-bad-room-requires c κs = header-ok _ (ap found (sym (c .before .enum-told .given .1)) ∙ c .before .before .before .check-header .ensures) .long
+bad-room-requires c κs =
+    let c7 = c .before .before .before .before .before .before .before in
+    header-ok _ (ap found (sym (c7 .enum-told .given .1)) ∙ c7 .before .before .check-header .ensures) .long
 
 unless-requires : tie.Need-unless-requires
 unless-requires c κs = search needs
@@ -30,16 +33,21 @@ unless-requires c κs = search needs
 sooner-requires : tie.Need-sooner-requires
 sooner-requires c κs = search needs
 
+same-length : tie.Need-same-length
+same-length c = search needs
+
+same-length-2 : tie.Need-same-length-2
+same-length-2 c = search needs
+
 returns-2 : tie.Need-returns-2
 returns-2 c =
     let c2 = c .before .before in
-    let c3 = c2 .before in
-    let c4 = c3 .before in
-    let c6 = c4 .before .before in
+    let c7 = c2 .before .before .before .before .before in
+    let c10 = c7 .before .before .before in
     ap found (c .sooner .ensures)
-    ∙ read-rest _ _ _ (c2 .bad-room .result) (c3 .check-words .result) (c .before .unless .result)
-    (ap found (sym (c4 .enum-told .given .1)) ∙ c6 .check-header .ensures) (c3 .check-words .ensures) (c2 .bad-room .ensures)
-    (c .before .unless .ensures)
+    ∙ read-rest _ _ _ (c2 .bad-room .result) (c7 .check-read-into .result) (c .before .unless .result)
+    (ap found (sym (c10 .enum-told .given .1)) ∙ c10 .before .before .check-header .ensures) (c7 .check-read-into .ensures)
+    (c2 .bad-room .ensures) (c .before .unless .ensures)
 
 pub check-read-spec : {M : Type 1} → statement M
 check-read-spec =
@@ -49,8 +57,10 @@ check-read-spec =
     enum-known-refusal
     returns
     enum-told
-    check-words-requires
+    check-read-into-requires
     bad-room-requires
     unless-requires
     sooner-requires
+    same-length
+    same-length-2
     returns-2)

@@ -16,8 +16,8 @@ run-forward-requires c κs = search needs
 gate-at-requires : tie.Need-gate-at-requires
 gate-at-requires c κs = search needs
 
-fires-requires : tie.Need-fires-requires
-fires-requires c κs = search needs
+shows-missing-requires : tie.Need-shows-missing-requires
+shows-missing-requires c κs = search needs
 
 returns : tie.Need-returns
 returns c =
@@ -27,4 +27,4 @@ returns c =
 pub catches-missing-gate-spec : {M : Type 1} → statement M
 catches-missing-gate-spec =
     tie.close
-    (tie.spec level-read-requires run-forward-requires gate-at-requires fires-requires returns)
+    (tie.spec level-read-requires run-forward-requires gate-at-requires shows-missing-requires returns)

@@ -67,8 +67,8 @@ add-i c = omega arith
 level-requires-2 : tie.Need-level-requires-2 Inv-loop μ-loop
 level-requires-2 c κs = search needs
 
-run-backward-requires : tie.Need-run-backward-requires Inv-loop μ-loop
-run-backward-requires c κs = (search needs, omega arith)
+inverse-at-requires : tie.Need-inverse-at-requires Inv-loop μ-loop
+inverse-at-requires c κs = (search needs, omega arith)
 
 add-room : tie.Need-add-room Inv-loop μ-loop
 add-room c = omega arith
@@ -103,8 +103,8 @@ loop-again c =
         (
           up,
           (
-            length-set (l .loop .room) (l .loop .i + 1 + 1) (c .run-backward .result) ∙ l .loop .inv .1 .1 .1 .0,
-            turn _ _ _ (omega arith) up (c .before .level2 .ensures) (c .run-backward .ensures) (l .loop .inv .1 .1 .1 .1),
+            length-set (l .loop .room) (l .loop .i + 1 + 1) (c .inverse-at .result) ∙ l .loop .inv .1 .1 .1 .0,
+            turn _ _ _ (omega arith) up (c .before .level2 .ensures) (c .inverse-at .ensures) (l .loop .inv .1 .1 .1 .1),
           ),
         ),
       ),
@@ -150,7 +150,7 @@ make-spec =
     step-requires
     add-i
     level-requires-2
-    run-backward-requires
+    inverse-at-requires
     add-room
     mul-room
     slice-write-room-3

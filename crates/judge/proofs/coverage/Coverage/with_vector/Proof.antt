@@ -6,6 +6,7 @@ use Rattle.refusals.specs.Checks.{found}
 use Rattle.refusals.proofs.Tables.{refused-number, after-refused, after-fine}
 use Rattle.circuit.specs.Rules.{circuitRows, vectorRows}
 use Rattle.circuit.proofs.RuleLaws.{vector-numbered, vector-ok}
+use Rattle.judge.specs.Answers.{toldBeside}
 use borrow.Author.Needs.{needs}
 use Rattle.judge.proofs.coverage.Coverage.with_vector.Statement.{statement}
 use Rattle.judge.proofs.coverage.Coverage.with_vector.Tie as tie
@@ -25,13 +26,19 @@ marked-requires c κs =
     let ok = vector-ok (a .lines) (a .gates .now) (a .vector) (ap found (sym (c .enum-told .given .1)) ∙ c .before .before .check-vector .ensures) in
     (ok .circuit, ok .vector)
 
+beside-requires : tie.Need-beside-requires
+beside-requires c κs = search needs
+
 returns : tie.Need-returns
 returns c =
-    let a = c .before .before .before .before .before .args in
-    let wrong = ap found (sym (c .before .refusal .given .1)) ∙ c .before .before .before .check-vector .ensures in
+    let a = c .before .before .before .before .before .before .args in
+    let same = c .beside .ensures in
+    let wrong = ap found (sym (c .before .before .refusal .given .1)) ∙ c .before .before .before .before .check-vector .ensures in
     let some = refused-number (circuitRows (a .lines) (a .gates .now) ++ vectorRows (a .lines) (a .vector)) _ _
-    (vector-numbered (a .lines) (a .gates .now) (a .vector)) wrong in
-    (rw (ne-eqb _ 0 some) wrong, after-refused (circuitRows (a .lines) (a .gates .now) ++ vectorRows (a .lines) (a .vector)) _ (a .self) _ _ wrong)
+    (vector-numbered (a .lines) (a .gates .now) (a .vector)) wrong in (
+      ap toldBeside (same .0) ∙ rw (ne-eqb _ 0 some) wrong,
+      same .1 ∙ after-refused (circuitRows (a .lines) (a .gates .now) ++ vectorRows (a .lines) (a .vector)) _ (a .self) _ _ wrong,
+    )
 
 returns-2 : tie.Need-returns-2
 returns-2 c =
@@ -42,4 +49,4 @@ returns-2 c =
 pub with-vector-spec : {M : Type 1} → statement M
 with-vector-spec =
     tie.close
-    (tie.spec check-vector-requires enum-known-refusal enum-told marked-requires returns returns-2)
+    (tie.spec check-vector-requires enum-known-refusal beside-requires enum-told marked-requires returns returns-2)
