@@ -44,10 +44,6 @@ module _ (n : ℕ) (words : List ℕ) (f : Fault) where
   unfolding badRecord
   good-told e = sym (ap not (fault-ok n words f e))
 
-  pub blank-bad : f .class ≡ 0 → true ≡ badRecord n (gatesOf words) f
-  unfolding badRecord isFault
-  blank-bad e = rw e
-
   pub record-told : (k : Checked) → found k ≡ firstOf (faultRows n words f) fine → isWrong k ≡ badRecord n (gatesOf words) f
   record-told Fine e = good-told e
   record-told (Wrong r) e = bad-told _ _ e

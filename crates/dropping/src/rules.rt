@@ -15,14 +15,11 @@ use simulator::Fault;
 use simulator::records::record_at;
 use simulator::rules::check_fault;
 
-// Whether a record is no fault of the circuit: a blank one is none, and of any other rule 9 tells.
+// Whether a record is no fault of the circuit.
 pub fn bad_record(lines: u32, gates: &[u32], fault: Fault) -> bool
     requires { ⌜ Sound lines (now gates) ⌝ }
     ensures { λ r. ⌜ r ≡ badRecord lines (gatesOf (now (gates .entry))) fault ⌝ }
 {
-    if fault.class == 0 {
-        return true;
-    }
     is_wrong(check_fault(lines, gates, fault))
 }
 
