@@ -1,0 +1,209 @@
+// The C interface: each call of the library under a C name, its answer a struct by value. `include/nufsadeem.h` declares it.
+// An answer's fields, in their order, are the `fields` of what the wrapped call tells.
+ghost use mathlib.Core.Path.{_≡_};
+ghost use mathlib.Core.List.{[], _∷_, _++_};
+ghost use Prim.Native.Nat.{_*_};
+ghost use lib.ListN.{length, drop};
+ghost use Rattle.basics.specs.Choice.{count};
+ghost use Rattle.refusals.specs.Tables.{firstOf, after};
+ghost use Rattle.refusals.specs.Tables.Told.{answered};
+ghost use Rattle.refusals.specs.Places.{inWord};
+ghost use Rattle.circuit.specs.Gates.{gatesOf};
+ghost use Rattle.circuit.specs.Runs.{forward, backward};
+ghost use Rattle.circuit.specs.Rules.{runRows};
+ghost use Rattle.simulator.specs.Faults.{caught};
+ghost use Rattle.simulator.specs.Rules.{catchRows, testRows, faultsOf};
+ghost use Rattle.simulator.specs.Multiple.{caughtTogether, multipleRows};
+ghost use Rattle.simulator.specs.Tests.{testFor};
+ghost use Rattle.judge.specs.Classes.{classFaults};
+ghost use Rattle.judge.specs.Judging.{caughtBySome, verdict};
+ghost use Rattle.judge.specs.Rules.{judgeRows};
+ghost use Rattle.dropping.specs.Dropping.{uncaught, dropped, numbersOf};
+ghost use Rattle.dropping.specs.Rules.{dropRows, dropRecordsRows};
+ghost use Rattle.testsets.specs.Sets.{backwardSet, compactSet};
+ghost use Rattle.testsets.specs.Rules.{backwardRows, compactRows};
+ghost use Rattle.job.specs.Image.{image, linesIn, classesIn, gatesIn, vectorsIn, gateWords, vectorWords};
+ghost use Rattle.job.specs.Rules.{readRows, writeRows};
+ghost use Rattle.nufsadeem.specs.Fields.{fields};
+use crate::answers::Catch;
+use crate::answers::Count;
+use crate::answers::Job;
+use crate::answers::Judgement;
+use crate::answers::Run;
+use crate::answers::Vector;
+use crate::answers::bytes_of;
+use crate::answers::catch_of;
+use crate::answers::job_of;
+use crate::answers::judgement_of;
+use crate::answers::left_of;
+use crate::answers::made_of;
+use crate::answers::run_of;
+use crate::answers::vector_of;
+use simulator::Fault;
+
+pub mod answers;
+
+#[no_mangle]
+pub extern "C" fn nuf_forward(lines: u32, gates: &[u32], level: u32, state: u32) -> Run
+    ensures { λ r. ⌜ (r .number ∷ r .place ∷ r .state ∷ []) ≡ fields 1 (firstOf
+        (runRows lines (now (gates .entry)) level state)
+        (answered (forward (gatesOf (now (gates .entry))) level state ∷ []))) ⌝ }
+{
+    run_of(circuit::forward(lines, gates, level, state))
+}
+
+#[no_mangle]
+pub extern "C" fn nuf_backward(lines: u32, gates: &[u32], level: u32, state: u32) -> Run
+    ensures { λ r. ⌜ (r .number ∷ r .place ∷ r .state ∷ []) ≡ fields 1 (firstOf
+        (runRows lines (now (gates .entry)) level state)
+        (answered (backward (gatesOf (now (gates .entry))) level state ∷ []))) ⌝ }
+{
+    run_of(circuit::backward(lines, gates, level, state))
+}
+
+#[no_mangle]
+pub extern "C" fn nuf_catches(lines: u32, gates: &[u32], vector: u32, fault: Fault) -> Catch
+    ensures { λ r. ⌜ (r .number ∷ r .place ∷ r .caught ∷ []) ≡ fields 1 (firstOf
+        (catchRows lines (now (gates .entry)) vector fault)
+        (answered (count (caught (gatesOf (now (gates .entry))) fault vector) ∷ []))) ⌝ }
+{
+    catch_of(simulator::catches(lines, gates, vector, fault))
+}
+
+#[no_mangle]
+pub extern "C" fn nuf_catches_multiple(
+    lines: u32,
+    gates: &[u32],
+    vector: u32,
+    entries: &[u32],
+) -> Catch
+    ensures { λ r. ⌜ (r .number ∷ r .place ∷ r .caught ∷ []) ≡ fields 1 (firstOf
+        (multipleRows lines (now (gates .entry)) vector (now (entries .entry)))
+        (answered (count (caughtTogether (gatesOf (now (gates .entry))) (faultsOf (now (entries .entry))) vector) ∷ []))) ⌝ }
+{
+    catch_of(simulator::catches_multiple(lines, gates, vector, entries))
+}
+
+#[no_mangle]
+pub extern "C" fn nuf_judge(lines: u32, gates: &[u32], vectors: &[u32], class: u32) -> Judgement
+    ensures { λ r. ⌜ (r .number ∷ r .place ∷ r .caught ∷ r .total ∷ r .complete
+        ∷ r .first .class ∷ r .first .place ∷ r .first .line ∷ r .first .value ∷ []) ≡ fields 7 (firstOf
+        (judgeRows lines (now (gates .entry)) (now (vectors .entry)) class)
+        (verdict (caughtBySome (gatesOf (now (gates .entry))) (now (vectors .entry))) (classFaults lines (gatesOf (now (gates .entry))) class))) ⌝ }
+{
+    judgement_of(judge::judge(lines, gates, vectors, class))
+}
+
+#[no_mangle]
+pub extern "C" fn nuf_cover(lines: u32, gates: &[u32], vectors: &[u32], class: u32) -> Judgement
+    ensures { λ r. ⌜ (r .number ∷ r .place ∷ r .caught ∷ r .total ∷ r .complete
+        ∷ r .first .class ∷ r .first .place ∷ r .first .line ∷ r .first .value ∷ []) ≡ fields 7 (firstOf
+        (judgeRows lines (now (gates .entry)) (now (vectors .entry)) class)
+        (verdict (caughtBySome (gatesOf (now (gates .entry))) (now (vectors .entry))) (classFaults lines (gatesOf (now (gates .entry))) class))) ⌝ }
+{
+    judgement_of(judge::covering::cover(lines, gates, vectors, class))
+}
+
+#[no_mangle]
+pub extern "C" fn nuf_test_for(lines: u32, gates: &[u32], fault: Fault) -> Vector
+    ensures { λ r. ⌜ (r .number ∷ r .place ∷ r .vector ∷ []) ≡ fields 1 (firstOf
+        (testRows lines (now (gates .entry)) fault)
+        (answered (testFor lines (gatesOf (now (gates .entry))) fault ∷ []))) ⌝ }
+{
+    vector_of(simulator::test_for(lines, gates, fault))
+}
+
+#[no_mangle]
+pub extern "C" fn nuf_backward_set(lines: u32, gates: &[u32], room: &mut [u32]) -> Count
+    ensures { λ r. ⌜ ((r .number ∷ r .place ∷ r .count ∷ []) ≡ fields 1 (firstOf
+        (backwardRows lines (now (gates .entry)) (length (now (room .entry))))
+        (answered (length (backwardSet lines (gatesOf (now (gates .entry)))) ∷ []))))
+        × (now (room .exit) ≡ after
+        (backwardRows lines (now (gates .entry)) (length (now (room .entry))))
+        (backwardSet lines (gatesOf (now (gates .entry))) ++ drop (length (backwardSet lines (gatesOf (now (gates .entry))))) (now (room .entry)))
+        (now (room .entry))) ⌝ }
+{
+    made_of(testsets::backward_set(lines, gates, room))
+}
+
+#[no_mangle]
+pub extern "C" fn nuf_compact_set(lines: u32, gates: &[u32], room: &mut [u32]) -> Count
+    ensures { λ r. ⌜ ((r .number ∷ r .place ∷ r .count ∷ []) ≡ fields 1 (firstOf
+        (compactRows lines (now (gates .entry)) (length (now (room .entry))))
+        (answered (length (compactSet lines (gatesOf (now (gates .entry)))) ∷ []))))
+        × (now (room .exit) ≡ after
+        (compactRows lines (now (gates .entry)) (length (now (room .entry))))
+        (compactSet lines (gatesOf (now (gates .entry))) ++ drop (length (compactSet lines (gatesOf (now (gates .entry))))) (now (room .entry)))
+        (now (room .entry))) ⌝ }
+{
+    made_of(testsets::compact_set(lines, gates, room))
+}
+
+#[no_mangle]
+pub extern "C" fn nuf_drop(lines: u32, gates: &[u32], vector: u32, list: &mut [u32]) -> Count
+    ensures { λ r. ⌜ ((r .number ∷ r .place ∷ r .count ∷ []) ≡ fields 1 (firstOf
+        (dropRows lines (now (gates .entry)) vector (now (list .entry)))
+        (answered (inWord (length (uncaught (gatesOf (now (gates .entry))) vector (faultsOf (now (list .entry))))) ∷ []))))
+        × (now (list .exit) ≡ after
+        (dropRows lines (now (gates .entry)) vector (now (list .entry)))
+        (numbersOf (dropped (gatesOf (now (gates .entry))) vector (faultsOf (now (list .entry)))))
+        (now (list .entry))) ⌝ }
+{
+    left_of(dropping::drop(lines, gates, vector, list))
+}
+
+#[no_mangle]
+pub extern "C" fn nuf_drop_records(
+    lines: u32,
+    gates: &[u32],
+    vector: u32,
+    list: &mut [Fault],
+) -> Count
+    ensures { λ r. ⌜ ((r .number ∷ r .place ∷ r .count ∷ []) ≡ fields 1 (firstOf
+        (dropRecordsRows lines (now (gates .entry)) vector (now (list .entry)))
+        (answered (inWord (length (uncaught (gatesOf (now (gates .entry))) vector (now (list .entry)))) ∷ []))))
+        × (now (list .exit) ≡ after
+        (dropRecordsRows lines (now (gates .entry)) vector (now (list .entry)))
+        (dropped (gatesOf (now (gates .entry))) vector (now (list .entry)))
+        (now (list .entry))) ⌝ }
+{
+    left_of(dropping::drop_records(lines, gates, vector, list))
+}
+
+#[no_mangle]
+pub extern "C" fn nuf_read_job(bytes: &[u8], gates: &mut [u32], vectors: &mut [u32]) -> Job
+    ensures { λ r. ⌜ ((r .number ∷ r .place ∷ r .lines ∷ r .classes ∷ r .gates ∷ r .vectors ∷ []) ≡ fields 4 (firstOf
+        (readRows (now (bytes .entry)) (length (now (gates .entry))) (length (now (vectors .entry))))
+        (answered (linesIn (now (bytes .entry)) ∷ classesIn (now (bytes .entry))
+        ∷ gatesIn (now (bytes .entry)) ∷ vectorsIn (now (bytes .entry)) ∷ []))))
+        × ((now (gates .exit) ≡ after
+        (readRows (now (bytes .entry)) (length (now (gates .entry))) (length (now (vectors .entry))))
+        (gateWords (now (bytes .entry)) ++ drop (3 * gatesIn (now (bytes .entry))) (now (gates .entry)))
+        (now (gates .entry)))
+        × (now (vectors .exit) ≡ after
+        (readRows (now (bytes .entry)) (length (now (gates .entry))) (length (now (vectors .entry))))
+        (vectorWords (now (bytes .entry)) ++ drop (vectorsIn (now (bytes .entry))) (now (vectors .entry)))
+        (now (vectors .entry)))) ⌝ }
+{
+    job_of(job::read_job(bytes, gates, vectors))
+}
+
+#[no_mangle]
+pub extern "C" fn nuf_write_job(
+    lines: u32,
+    classes: u32,
+    gates: &[u32],
+    vectors: &[u32],
+    out: &mut [u8],
+) -> Count
+    ensures { λ r. ⌜ ((r .number ∷ r .place ∷ r .count ∷ []) ≡ fields 1 (firstOf
+        (writeRows lines classes (now (gates .entry)) (now (vectors .entry)) (length (now (out .entry))))
+        (answered (length (image lines classes (now (gates .entry)) (now (vectors .entry))) ∷ []))))
+        × (now (out .exit) ≡ after
+        (writeRows lines classes (now (gates .entry)) (now (vectors .entry)) (length (now (out .entry))))
+        (image lines classes (now (gates .entry)) (now (vectors .entry))
+        ++ drop (length (image lines classes (now (gates .entry)) (now (vectors .entry)))) (now (out .entry)))
+        (now (out .entry))) ⌝ }
+{
+    bytes_of(job::write_job(lines, classes, gates, vectors, out))
+}
