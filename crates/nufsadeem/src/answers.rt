@@ -72,6 +72,7 @@ pub struct Judgement {
     pub first: Fault,
 }
 
+// A run.
 pub fn run_of(ran: Ran) -> Run
     ensures { λ r. ⌜ (r .number ∷ r .place ∷ r .state ∷ []) ≡ fields 1 (told ran) ⌝ }
 {
@@ -89,6 +90,7 @@ pub fn run_of(ran: Ran) -> Run
     }
 }
 
+// A catch.
 pub fn catch_of(caught: Caught) -> Catch
     ensures { λ r. ⌜ (r .number ∷ r .place ∷ r .caught ∷ []) ≡ fields 1 (toldCaught caught) ⌝ }
 {
@@ -111,6 +113,7 @@ pub fn catch_of(caught: Caught) -> Catch
     }
 }
 
+// A test for a fault.
 pub fn vector_of(made: simulator::Made) -> Vector
     ensures { λ r. ⌜ (r .number ∷ r .place ∷ r .vector ∷ []) ≡ fields 1 (simulated.toldMade made) ⌝ }
 {
@@ -128,6 +131,7 @@ pub fn vector_of(made: simulator::Made) -> Vector
     }
 }
 
+// A set that was made.
 pub fn made_of(made: testsets::Made) -> Count
     ensures { λ r. ⌜ (r .number ∷ r .place ∷ r .count ∷ []) ≡ fields 1 (sets.toldMade made) ⌝ }
 {
@@ -145,6 +149,7 @@ pub fn made_of(made: testsets::Made) -> Count
     }
 }
 
+// A list that was dropped from.
 pub fn left_of(dropped: Dropped) -> Count
     ensures { λ r. ⌜ (r .number ∷ r .place ∷ r .count ∷ []) ≡ fields 1 (toldDropped dropped) ⌝ }
 {
@@ -162,6 +167,7 @@ pub fn left_of(dropped: Dropped) -> Count
     }
 }
 
+// A job that was written.
 pub fn bytes_of(written: Written) -> Count
     ensures { λ r. ⌜ (r .number ∷ r .place ∷ r .count ∷ []) ≡ fields 1 (toldWritten written) ⌝ }
 {
@@ -179,6 +185,7 @@ pub fn bytes_of(written: Written) -> Count
     }
 }
 
+// A job that was read.
 pub fn job_of(read: Read) -> Job
     ensures { λ r. ⌜ (r .number ∷ r .place ∷ r .lines ∷ r .classes ∷ r .gates ∷ r .vectors ∷ []) ≡ fields 4 (toldRead read) ⌝ }
 {
@@ -207,6 +214,7 @@ pub fn job_of(read: Read) -> Job
     }
 }
 
+// A verdict.
 pub fn judgement_of(verdict: Verdict) -> Judgement
     ensures { λ r. ⌜ (r .number ∷ r .place ∷ r .caught ∷ r .total ∷ r .complete
         ∷ r .first .class ∷ r .first .place ∷ r .first .line ∷ r .first .value ∷ []) ≡ fields 7 (toldVerdict verdict) ⌝ }

@@ -43,6 +43,7 @@ use simulator::Fault;
 
 pub mod answers;
 
+// From the input to a level.
 #[no_mangle]
 pub extern "C" fn nuf_forward(lines: u32, gates: &[u32], level: u32, state: u32) -> Run
     ensures { λ r. ⌜ (r .number ∷ r .place ∷ r .state ∷ []) ≡ fields 1 (firstOf
@@ -52,6 +53,7 @@ pub extern "C" fn nuf_forward(lines: u32, gates: &[u32], level: u32, state: u32)
     run_of(circuit::forward(lines, gates, level, state))
 }
 
+// From a level to the input that leads there.
 #[no_mangle]
 pub extern "C" fn nuf_backward(lines: u32, gates: &[u32], level: u32, state: u32) -> Run
     ensures { λ r. ⌜ (r .number ∷ r .place ∷ r .state ∷ []) ≡ fields 1 (firstOf
@@ -61,6 +63,7 @@ pub extern "C" fn nuf_backward(lines: u32, gates: &[u32], level: u32, state: u32
     run_of(circuit::backward(lines, gates, level, state))
 }
 
+// Whether a vector catches a fault.
 #[no_mangle]
 pub extern "C" fn nuf_catches(lines: u32, gates: &[u32], vector: u32, fault: Fault) -> Catch
     ensures { λ r. ⌜ (r .number ∷ r .place ∷ r .caught ∷ []) ≡ fields 1 (firstOf
@@ -70,6 +73,7 @@ pub extern "C" fn nuf_catches(lines: u32, gates: &[u32], vector: u32, fault: Fau
     catch_of(simulator::catches(lines, gates, vector, fault))
 }
 
+// Whether a vector catches a multiple stuck-at fault, lent as a plain list of entries.
 #[no_mangle]
 pub extern "C" fn nuf_catches_multiple(
     lines: u32,
@@ -84,6 +88,7 @@ pub extern "C" fn nuf_catches_multiple(
     catch_of(simulator::catches_multiple(lines, gates, vector, entries))
 }
 
+// The verdict on a set for a class.
 #[no_mangle]
 pub extern "C" fn nuf_judge(lines: u32, gates: &[u32], vectors: &[u32], class: u32) -> Judgement
     ensures { λ r. ⌜ (r .number ∷ r .place ∷ r .caught ∷ r .total ∷ r .complete
@@ -94,6 +99,7 @@ pub extern "C" fn nuf_judge(lines: u32, gates: &[u32], vectors: &[u32], class: u
     judgement_of(judge::judge(lines, gates, vectors, class))
 }
 
+// The same verdict, by way of a coverage.
 #[no_mangle]
 pub extern "C" fn nuf_cover(lines: u32, gates: &[u32], vectors: &[u32], class: u32) -> Judgement
     ensures { λ r. ⌜ (r .number ∷ r .place ∷ r .caught ∷ r .total ∷ r .complete
@@ -104,6 +110,7 @@ pub extern "C" fn nuf_cover(lines: u32, gates: &[u32], vectors: &[u32], class: u
     judgement_of(judge::covering::cover(lines, gates, vectors, class))
 }
 
+// The test for one fault.
 #[no_mangle]
 pub extern "C" fn nuf_test_for(lines: u32, gates: &[u32], fault: Fault) -> Vector
     ensures { λ r. ⌜ (r .number ∷ r .place ∷ r .vector ∷ []) ≡ fields 1 (firstOf
@@ -113,6 +120,7 @@ pub extern "C" fn nuf_test_for(lines: u32, gates: &[u32], fault: Fault) -> Vecto
     vector_of(simulator::test_for(lines, gates, fault))
 }
 
+// The backward set, into the front of a room.
 #[no_mangle]
 pub extern "C" fn nuf_backward_set(lines: u32, gates: &[u32], room: &mut [u32]) -> Count
     ensures { λ r. ⌜ ((r .number ∷ r .place ∷ r .count ∷ []) ≡ fields 1 (firstOf
@@ -126,6 +134,7 @@ pub extern "C" fn nuf_backward_set(lines: u32, gates: &[u32], room: &mut [u32]) 
     made_of(testsets::backward_set(lines, gates, room))
 }
 
+// The compact set, into the front of a room.
 #[no_mangle]
 pub extern "C" fn nuf_compact_set(lines: u32, gates: &[u32], room: &mut [u32]) -> Count
     ensures { λ r. ⌜ ((r .number ∷ r .place ∷ r .count ∷ []) ≡ fields 1 (firstOf
@@ -139,6 +148,7 @@ pub extern "C" fn nuf_compact_set(lines: u32, gates: &[u32], room: &mut [u32]) -
     made_of(testsets::compact_set(lines, gates, room))
 }
 
+// A plain list loses the faults that a vector catches.
 #[no_mangle]
 pub extern "C" fn nuf_drop(lines: u32, gates: &[u32], vector: u32, list: &mut [u32]) -> Count
     ensures { λ r. ⌜ ((r .number ∷ r .place ∷ r .count ∷ []) ≡ fields 1 (firstOf
@@ -152,6 +162,7 @@ pub extern "C" fn nuf_drop(lines: u32, gates: &[u32], vector: u32, list: &mut [u
     left_of(dropping::drop(lines, gates, vector, list))
 }
 
+// The same of a list of records.
 #[no_mangle]
 pub extern "C" fn nuf_drop_records(
     lines: u32,
@@ -170,6 +181,7 @@ pub extern "C" fn nuf_drop_records(
     left_of(dropping::drop_records(lines, gates, vector, list))
 }
 
+// A job out of bytes, into the fronts of two lists.
 #[no_mangle]
 pub extern "C" fn nuf_read_job(bytes: &[u8], gates: &mut [u32], vectors: &mut [u32]) -> Job
     ensures { λ r. ⌜ ((r .number ∷ r .place ∷ r .lines ∷ r .classes ∷ r .gates ∷ r .vectors ∷ []) ≡ fields 4 (firstOf
@@ -188,6 +200,7 @@ pub extern "C" fn nuf_read_job(bytes: &[u8], gates: &mut [u32], vectors: &mut [u
     job_of(job::read_job(bytes, gates, vectors))
 }
 
+// A job into the front of some bytes.
 #[no_mangle]
 pub extern "C" fn nuf_write_job(
     lines: u32,
