@@ -48,7 +48,8 @@ count-ok n words class e =
 
 -- ---- a set that breaks no rule: nor does its circuit with any one of its vectors, or with the class
 
-pub set-circuit : (n : ℕ) (words xs : List ℕ) (class : ℕ) → fine ≡ firstOf (judgeRows n words xs class) fine → fine ≡ firstOf (circuitRows n words) fine
+pub set-circuit : (n : ℕ) (words xs : List ℕ) (class : ℕ) → fine ≡ firstOf (judgeRows n words xs class) fine
+    → fine ≡ firstOf (circuitRows n words) fine
 unfolding judgeRows setRows circuitSetRows circuitRows
 set-circuit n words xs class e =
     let set = fine-parts (setRows n words xs) (classRows class) e .0 in
@@ -67,4 +68,5 @@ pub count-passes : (n : ℕ) (words xs : List ℕ) (class : ℕ) → fine ≡ fi
     → fine ≡ firstOf (countRows n words class) fine
 unfolding judgeRows countRows
 count-passes n words xs class e =
-    fine-parts (setRows n words xs) (classRows class) e .1 ∙ sym (fine-on (circuitRows n words) (classRows class) fine (set-circuit n words xs class e))
+    fine-parts (setRows n words xs) (classRows class) e .1
+    ∙ sym (fine-on (circuitRows n words) (classRows class) fine (set-circuit n words xs class e))

@@ -1,4 +1,5 @@
--- `nufsadeem::nuf_drop` meets its contract: its fields are those of what `dropping::drop` tells, and the memory is as that leaves it. Assumes nothing.
+-- `nufsadeem::nuf_drop` meets its contract: its fields are those of what `dropping::drop` tells, and memory is as it leaves it.
+-- Assumes nothing.
 use mathlib.Core.Path.{ap, _∙_}
 use Rattle.nufsadeem.specs.Fields.{fields}
 use borrow.Author.Needs.{needs}
