@@ -5,18 +5,12 @@ ghost use mathlib.Core.List.{[], _∷_};
 ghost use Rattle.circuit.specs.Answers.{told};
 ghost use Rattle.simulator.specs.Answers as simulated;
 ghost use Rattle.simulator.specs.Answers.{toldCaught};
-ghost use Rattle.judge.specs.Answers.{toldVerdict};
 ghost use Rattle.dropping.specs.Answers.{toldDropped};
 ghost use Rattle.testsets.specs.Answers as sets;
-ghost use Rattle.job.specs.Answers.{toldRead, toldWritten};
 ghost use Rattle.nufsadeem.specs.Fields.{fields};
 use circuit::Ran;
 use dropping::Dropped;
-use job::Read;
-use job::Written;
-use judge::Verdict;
 use simulator::Caught;
-use simulator::Fault;
 
 // A state.
 #[repr(C)]
@@ -48,28 +42,6 @@ pub struct Count {
     pub number: u32,
     pub place: u32,
     pub count: u32,
-}
-
-// A job's head.
-#[repr(C)]
-pub struct Job {
-    pub number: u32,
-    pub place: u32,
-    pub lines: u32,
-    pub classes: u32,
-    pub gates: u32,
-    pub vectors: u32,
-}
-
-// A verdict: `complete` is 1 or 0, and `first` the first uncaught fault.
-#[repr(C)]
-pub struct Judgement {
-    pub number: u32,
-    pub place: u32,
-    pub caught: u32,
-    pub total: u32,
-    pub complete: u32,
-    pub first: Fault,
 }
 
 // A run.
@@ -163,100 +135,6 @@ pub fn left_of(dropped: Dropped) -> Count
             number: refusal.number,
             place: refusal.place,
             count: 0,
-        },
-    }
-}
-
-// A job that was written.
-pub fn bytes_of(written: Written) -> Count
-    ensures { λ r. ⌜ (r .number ∷ r .place ∷ r .count ∷ []) ≡ fields 1 (toldWritten written) ⌝ }
-{
-    match written {
-        Written::Bytes(count) => Count {
-            number: 0,
-            place: 0,
-            count,
-        },
-        Written::Refused(refusal) => Count {
-            number: refusal.number,
-            place: refusal.place,
-            count: 0,
-        },
-    }
-}
-
-// A job that was read.
-pub fn job_of(read: Read) -> Job
-    ensures { λ r. ⌜ (r .number ∷ r .place ∷ r .lines ∷ r .classes ∷ r .gates ∷ r .vectors ∷ []) ≡ fields 4 (toldRead read) ⌝ }
-{
-    match read {
-        Read::Job {
-            lines,
-            classes,
-            gates,
-            vectors,
-        } => Job {
-            number: 0,
-            place: 0,
-            lines,
-            classes,
-            gates,
-            vectors,
-        },
-        Read::Refused(refusal) => Job {
-            number: refusal.number,
-            place: refusal.place,
-            lines: 0,
-            classes: 0,
-            gates: 0,
-            vectors: 0,
-        },
-    }
-}
-
-// A verdict.
-pub fn judgement_of(verdict: Verdict) -> Judgement
-    ensures { λ r. ⌜ (r .number ∷ r .place ∷ r .caught ∷ r .total ∷ r .complete
-        ∷ r .first .class ∷ r .first .place ∷ r .first .line ∷ r .first .value ∷ []) ≡ fields 7 (toldVerdict verdict) ⌝ }
-{
-    match verdict {
-        Verdict::Complete { caught, total } => Judgement {
-            number: 0,
-            place: 0,
-            caught,
-            total,
-            complete: 1,
-            first: Fault {
-                class: 0,
-                place: 0,
-                line: 0,
-                value: 0,
-            },
-        },
-        Verdict::Left {
-            caught,
-            total,
-            first,
-        } => Judgement {
-            number: 0,
-            place: 0,
-            caught,
-            total,
-            complete: 0,
-            first,
-        },
-        Verdict::Refused(refusal) => Judgement {
-            number: refusal.number,
-            place: refusal.place,
-            caught: 0,
-            total: 0,
-            complete: 0,
-            first: Fault {
-                class: 0,
-                place: 0,
-                line: 0,
-                value: 0,
-            },
         },
     }
 }

@@ -2,7 +2,6 @@
 // An answer's fields, in their order, are the `fields` of what the wrapped call tells.
 ghost use mathlib.Core.Path.{_≡_};
 ghost use mathlib.Core.List.{[], _∷_, _++_};
-ghost use Prim.Native.Nat.{_*_};
 ghost use lib.ListN.{length, drop};
 ghost use Rattle.basics.specs.Choice.{count};
 ghost use Rattle.refusals.specs.Tables.{firstOf, after};
@@ -15,26 +14,16 @@ ghost use Rattle.simulator.specs.Faults.{caught};
 ghost use Rattle.simulator.specs.Rules.{catchRows, testRows, faultsOf};
 ghost use Rattle.simulator.specs.Multiple.{caughtTogether, multipleRows};
 ghost use Rattle.simulator.specs.Tests.{testFor};
-ghost use Rattle.judge.specs.Classes.{classFaults};
-ghost use Rattle.judge.specs.Judging.{caughtBySome, verdict};
-ghost use Rattle.judge.specs.Rules.{judgeRows};
 ghost use Rattle.dropping.specs.Dropping.{uncaught, dropped, numbersOf};
 ghost use Rattle.dropping.specs.Rules.{dropRows, dropRecordsRows};
 ghost use Rattle.testsets.specs.Sets.{backwardSet, compactSet};
 ghost use Rattle.testsets.specs.Rules.{backwardRows, compactRows};
-ghost use Rattle.job.specs.Image.{image, linesIn, classesIn, gatesIn, vectorsIn, gateWords, vectorWords};
-ghost use Rattle.job.specs.Rules.{readRows, writeRows};
 ghost use Rattle.nufsadeem.specs.Fields.{fields};
 use crate::answers::Catch;
 use crate::answers::Count;
-use crate::answers::Job;
-use crate::answers::Judgement;
 use crate::answers::Run;
 use crate::answers::Vector;
-use crate::answers::bytes_of;
 use crate::answers::catch_of;
-use crate::answers::job_of;
-use crate::answers::judgement_of;
 use crate::answers::left_of;
 use crate::answers::made_of;
 use crate::answers::run_of;
@@ -42,6 +31,8 @@ use crate::answers::vector_of;
 use simulator::Fault;
 
 pub mod answers;
+pub mod jobs;
+pub mod judging;
 
 // From the input to a level.
 #[no_mangle]
@@ -86,28 +77,6 @@ pub extern "C" fn nuf_catches_multiple(
         (answered (count (caughtTogether (gatesOf (now (gates .entry))) (faultsOf (now (entries .entry))) vector) ∷ []))) ⌝ }
 {
     catch_of(simulator::catches_multiple(lines, gates, vector, entries))
-}
-
-// The verdict on a set for a class.
-#[no_mangle]
-pub extern "C" fn nuf_judge(lines: u32, gates: &[u32], vectors: &[u32], class: u32) -> Judgement
-    ensures { λ r. ⌜ (r .number ∷ r .place ∷ r .caught ∷ r .total ∷ r .complete
-        ∷ r .first .class ∷ r .first .place ∷ r .first .line ∷ r .first .value ∷ []) ≡ fields 7 (firstOf
-        (judgeRows lines (now (gates .entry)) (now (vectors .entry)) class)
-        (verdict (caughtBySome (gatesOf (now (gates .entry))) (now (vectors .entry))) (classFaults lines (gatesOf (now (gates .entry))) class))) ⌝ }
-{
-    judgement_of(judge::judge(lines, gates, vectors, class))
-}
-
-// The same verdict, by way of a coverage.
-#[no_mangle]
-pub extern "C" fn nuf_cover(lines: u32, gates: &[u32], vectors: &[u32], class: u32) -> Judgement
-    ensures { λ r. ⌜ (r .number ∷ r .place ∷ r .caught ∷ r .total ∷ r .complete
-        ∷ r .first .class ∷ r .first .place ∷ r .first .line ∷ r .first .value ∷ []) ≡ fields 7 (firstOf
-        (judgeRows lines (now (gates .entry)) (now (vectors .entry)) class)
-        (verdict (caughtBySome (gatesOf (now (gates .entry))) (now (vectors .entry))) (classFaults lines (gatesOf (now (gates .entry))) class))) ⌝ }
-{
-    judgement_of(judge::covering::cover(lines, gates, vectors, class))
 }
 
 // The test for one fault.
@@ -179,44 +148,4 @@ pub extern "C" fn nuf_drop_records(
         (now (list .entry))) ⌝ }
 {
     left_of(dropping::drop_records(lines, gates, vector, list))
-}
-
-// A job out of bytes, into the fronts of two lists.
-#[no_mangle]
-pub extern "C" fn nuf_read_job(bytes: &[u8], gates: &mut [u32], vectors: &mut [u32]) -> Job
-    ensures { λ r. ⌜ ((r .number ∷ r .place ∷ r .lines ∷ r .classes ∷ r .gates ∷ r .vectors ∷ []) ≡ fields 4 (firstOf
-        (readRows (now (bytes .entry)) (length (now (gates .entry))) (length (now (vectors .entry))))
-        (answered (linesIn (now (bytes .entry)) ∷ classesIn (now (bytes .entry))
-        ∷ gatesIn (now (bytes .entry)) ∷ vectorsIn (now (bytes .entry)) ∷ []))))
-        × ((now (gates .exit) ≡ after
-        (readRows (now (bytes .entry)) (length (now (gates .entry))) (length (now (vectors .entry))))
-        (gateWords (now (bytes .entry)) ++ drop (3 * gatesIn (now (bytes .entry))) (now (gates .entry)))
-        (now (gates .entry)))
-        × (now (vectors .exit) ≡ after
-        (readRows (now (bytes .entry)) (length (now (gates .entry))) (length (now (vectors .entry))))
-        (vectorWords (now (bytes .entry)) ++ drop (vectorsIn (now (bytes .entry))) (now (vectors .entry)))
-        (now (vectors .entry)))) ⌝ }
-{
-    job_of(job::read_job(bytes, gates, vectors))
-}
-
-// A job into the front of some bytes.
-#[no_mangle]
-pub extern "C" fn nuf_write_job(
-    lines: u32,
-    classes: u32,
-    gates: &[u32],
-    vectors: &[u32],
-    out: &mut [u8],
-) -> Count
-    ensures { λ r. ⌜ ((r .number ∷ r .place ∷ r .count ∷ []) ≡ fields 1 (firstOf
-        (writeRows lines classes (now (gates .entry)) (now (vectors .entry)) (length (now (out .entry))))
-        (answered (length (image lines classes (now (gates .entry)) (now (vectors .entry))) ∷ []))))
-        × (now (out .exit) ≡ after
-        (writeRows lines classes (now (gates .entry)) (now (vectors .entry)) (length (now (out .entry))))
-        (image lines classes (now (gates .entry)) (now (vectors .entry))
-        ++ drop (length (image lines classes (now (gates .entry)) (now (vectors .entry)))) (now (out .entry)))
-        (now (out .entry))) ⌝ }
-{
-    bytes_of(job::write_job(lines, classes, gates, vectors, out))
 }

@@ -1,10 +1,10 @@
--- `nufsadeem::answers::bytes_of` meets its contract: in each case the fields are those of what is told. Assumes nothing.
+-- `nufsadeem::jobs::bytes_of` meets its contract: in each case the fields are those of what is told. Assumes nothing.
 use mathlib.Core.Path.{ap, sym}
 use Rattle.job.specs.Answers.{toldWritten}
 use Rattle.nufsadeem.specs.Fields.{fields}
 use borrow.Author.Needs.{needs}
-use Rattle.nufsadeem.proofs.answers.bytes_of.Statement.{statement}
-use Rattle.nufsadeem.proofs.answers.bytes_of.Tie as tie
+use Rattle.nufsadeem.proofs.jobs.bytes_of.Statement.{statement}
+use Rattle.nufsadeem.proofs.jobs.bytes_of.Tie as tie
 
 enum-known-written : tie.Need-enum-known-written
 enum-known-written c = search needs

@@ -1,10 +1,10 @@
--- `nufsadeem::answers::job_of` meets its contract: in each case the fields are those of what is told. Assumes nothing.
+-- `nufsadeem::jobs::job_of` meets its contract: in each case the fields are those of what is told. Assumes nothing.
 use mathlib.Core.Path.{ap, sym}
 use Rattle.job.specs.Answers.{toldRead}
 use Rattle.nufsadeem.specs.Fields.{fields}
 use borrow.Author.Needs.{needs}
-use Rattle.nufsadeem.proofs.answers.job_of.Statement.{statement}
-use Rattle.nufsadeem.proofs.answers.job_of.Tie as tie
+use Rattle.nufsadeem.proofs.jobs.job_of.Statement.{statement}
+use Rattle.nufsadeem.proofs.jobs.job_of.Tie as tie
 
 enum-known-read : tie.Need-enum-known-read
 enum-known-read c = search needs

@@ -1,10 +1,10 @@
--- `nufsadeem::answers::judgement_of` meets its contract: in each case the fields are those of what is told. Assumes nothing.
+-- `nufsadeem::judging::judgement_of` meets its contract: in each case the fields are those of what is told. Assumes nothing.
 use mathlib.Core.Path.{ap, sym}
 use Rattle.judge.specs.Answers.{toldVerdict}
 use Rattle.nufsadeem.specs.Fields.{fields}
 use borrow.Author.Needs.{needs}
-use Rattle.nufsadeem.proofs.answers.judgement_of.Statement.{statement}
-use Rattle.nufsadeem.proofs.answers.judgement_of.Tie as tie
+use Rattle.nufsadeem.proofs.judging.judgement_of.Statement.{statement}
+use Rattle.nufsadeem.proofs.judging.judgement_of.Tie as tie
 
 enum-known-verdict : tie.Need-enum-known-verdict
 enum-known-verdict c = search needs

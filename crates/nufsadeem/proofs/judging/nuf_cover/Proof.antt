@@ -1,9 +1,9 @@
--- `nufsadeem::nuf_cover` meets its contract: its fields are those of what `judge::covering::cover` tells. Assumes nothing.
+-- `nufsadeem::judging::nuf_cover` meets its contract: its fields are those of what `judge::covering::cover` tells. Assumes nothing.
 use mathlib.Core.Path.{ap, _∙_}
 use Rattle.nufsadeem.specs.Fields.{fields}
 use borrow.Author.Needs.{needs}
-use Rattle.nufsadeem.proofs.nuf_cover.Statement.{statement}
-use Rattle.nufsadeem.proofs.nuf_cover.Tie as tie
+use Rattle.nufsadeem.proofs.judging.nuf_cover.Statement.{statement}
+use Rattle.nufsadeem.proofs.judging.nuf_cover.Tie as tie
 
 cover-requires : tie.Need-cover-requires
 cover-requires c κs = search needs
