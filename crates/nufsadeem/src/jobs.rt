@@ -1,4 +1,4 @@
-// Jobs for C: read out of bytes and written into bytes.
+// Jobs for C: read out of bytes, written into bytes, and reported on.
 ghost use mathlib.Core.Path.{_≡_};
 ghost use mathlib.Core.List.{[], _∷_, _++_};
 ghost use Prim.Native.Nat.{_*_};
@@ -8,10 +8,14 @@ ghost use Rattle.refusals.specs.Tables.Told.{answered};
 ghost use Rattle.job.specs.Image.{image, linesIn, classesIn, gatesIn, vectorsIn, gateWords, vectorWords};
 ghost use Rattle.job.specs.Rules.{readRows, writeRows};
 ghost use Rattle.job.specs.Answers.{toldRead, toldWritten};
+ghost use Rattle.report_text.specs.Report.{reportText};
+ghost use Rattle.report_text.specs.Rules.{reportRows};
+ghost use Rattle.report_text.specs.Answers.{toldReported};
 ghost use Rattle.nufsadeem.specs.Fields.{fields};
 use crate::answers::Count;
 use job::Read;
 use job::Written;
+use report_text::Reported;
 
 // A job's head.
 #[repr(C)]
@@ -71,6 +75,24 @@ pub fn bytes_of(written: Written) -> Count
     }
 }
 
+// A report that was written.
+pub fn text_of(reported: Reported) -> Count
+    ensures { λ r. ⌜ (r .number ∷ r .place ∷ r .count ∷ []) ≡ fields 1 (toldReported reported) ⌝ }
+{
+    match reported {
+        Reported::Bytes(count) => Count {
+            number: 0,
+            place: 0,
+            count,
+        },
+        Reported::Refused(refusal) => Count {
+            number: refusal.number,
+            place: refusal.place,
+            count: 0,
+        },
+    }
+}
+
 // A job out of bytes, into the fronts of two lists.
 #[no_mangle]
 pub extern "C" fn nuf_read_job(bytes: &[u8], gates: &mut [u32], vectors: &mut [u32]) -> Job
@@ -109,4 +131,18 @@ pub extern "C" fn nuf_write_job(
         (now (out .entry))) ⌝ }
 {
     bytes_of(job::write_job(lines, classes, gates, vectors, out))
+}
+
+// The report on a job into the front of some bytes.
+#[no_mangle]
+pub extern "C" fn nuf_report(bytes: &[u8], out: &mut [u8]) -> Count
+    ensures { λ r. ⌜ ((r .number ∷ r .place ∷ r .count ∷ []) ≡ fields 1 (firstOf
+        (reportRows (now (bytes .entry)) (length (now (out .entry))))
+        (answered (length (reportText (now (bytes .entry))) ∷ []))))
+        × (now (out .exit) ≡ after
+        (reportRows (now (bytes .entry)) (length (now (out .entry))))
+        (reportText (now (bytes .entry)) ++ drop (length (reportText (now (bytes .entry)))) (now (out .entry)))
+        (now (out .entry))) ⌝ }
+{
+    text_of(report_text::report(bytes, out))
 }
