@@ -1,15 +1,20 @@
 -- What a set and a class that break no rule are.
-use Prim.Native.Nat.{ℕ, _≤_}
-use mathlib.Core.Path.{_≡_}
-use mathlib.Core.Bool.{not}
-use mathlib.Core.List.{List}
-use lib.Dec.{leb}
-use borrow.Author.Tests.{leb-true, not-false}
-use Rattle.basics.proofs.Tests.{and-both}
+use Prim.Native.Nat.{ℕ, _^_, _<_, _≤_}
+use mathlib.Core.Path.{_≡_, sym, ap, _∙_}
+use mathlib.Core.Bool.{not, _||_}
+use mathlib.Core.List.{List, [], _∷_, _++_}
+use lib.ListN.{length}
+use lib.Dec.{eqb, ltb, leb}
+use borrow.Author.Tests.{leb-true, lt-leb, not-false}
+use Rattle.basics.specs.Choice.{pick}
+use Rattle.basics.proofs.Tests.{and-both, or-neither}
 use Rattle.refusals.specs.Tables.{firstOf}
+use Rattle.refusals.specs.Tables.Row.{refuse_at_when_}
+use Rattle.refusals.specs.Tables.Told.{refused}
 use Rattle.refusals.specs.Checks.{fine}
-use Rattle.refusals.proofs.Tables.{fine-row, fine-parts}
-use Rattle.circuit.specs.Rules.{circuitRows, setRows}
+use Rattle.refusals.proofs.Tables.{fine-row, fine-parts, fine-on}
+use Rattle.circuit.specs.Gates.{gatesOf}
+use Rattle.circuit.specs.Rules.{circuitSetRows, circuitRows, firstBadVector, setRows, vectorRows}
 use Rattle.circuit.specs.Sound.{Sound}
 use Rattle.circuit.proofs.RuleLaws.{sound, VectorsOk, vectors-ok}
 use Rattle.judge.specs.Classes.{isClass}
@@ -40,3 +45,28 @@ unfolding countRows
 count-ok n words class e =
     let w = fine-parts (circuitRows n words) (classRows class) e in
     record { circuit = sound n words (w .0); class-in = class-ok class (w .1) }
+
+-- ---- a set that breaks no rule: nor does its circuit with any one of its vectors, or with the class
+
+pub set-circuit : (n : ℕ) (words xs : List ℕ) (class : ℕ) → fine ≡ firstOf (judgeRows n words xs class) fine
+    → fine ≡ firstOf (circuitRows n words) fine
+unfolding judgeRows setRows circuitSetRows circuitRows
+set-circuit n words xs class e =
+    let set = fine-parts (setRows n words xs) (classRows class) e .0 in
+    let all = fine-parts (circuitSetRows n words (length xs))
+    (refuse 8 at firstBadVector n xs when not (eqb (firstBadVector n xs) 0) ∷ []) set .0 in
+    let lines = fine-row (ltb n 1 || ltb 32 n) 3 0 _ all in
+    let sizes = fine-row (ltb 1024 (length (gatesOf words)) || ltb 2048 (length xs)) 5 0 _ (lines .1) in
+    rw (lines .0, or-neither (ltb 1024 (length (gatesOf words))) (ltb 2048 (length xs)) (sizes .0) .0) (sizes .1)
+
+pub vector-passes : (n : ℕ) (words : List ℕ) (x : ℕ) → fine ≡ firstOf (circuitRows n words) fine → x < 2 ^ n
+    → fine ≡ firstOf (circuitRows n words ++ vectorRows n x) fine
+unfolding vectorRows
+vector-passes n words x e h = sym (fine-on (circuitRows n words) (vectorRows n x) fine e ∙ ap (λ b. pick b (refused 8 1) fine) (lt-leb (2 ^ n) x h))
+
+pub count-passes : (n : ℕ) (words xs : List ℕ) (class : ℕ) → fine ≡ firstOf (judgeRows n words xs class) fine
+    → fine ≡ firstOf (countRows n words class) fine
+unfolding judgeRows countRows
+count-passes n words xs class e =
+    fine-parts (setRows n words xs) (classRows class) e .1
+    ∙ sym (fine-on (circuitRows n words) (classRows class) fine (set-circuit n words xs class e))

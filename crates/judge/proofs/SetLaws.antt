@@ -18,7 +18,7 @@ use Rattle.circuit.specs.declared.Gate.{Gate}
 use Rattle.simulator.specs.declared.Fault.{Fault}
 use Rattle.simulator.proofs.ClassLaws.{stuck-fault, names-gate, no-value, names-line}
 use Rattle.judge.specs.Classes.{classFaults}
-use Rattle.judge.specs.Coverages.{emptyCoverage, marked, markAll, levelMarks, gateMarks, levelMarked, gateMarked, isMarked, withAll}
+use Rattle.judge.specs.Coverages.{emptyCoverage, marked, markAll, levelMarks, gateMarks, levelMarked, gateMarked, isMarked, withVector, withAll}
 use Rattle.judge.specs.Judging.{caughtBySome, verdict}
 use Rattle.judge.specs.declared.coverage.Coverage.{Coverage}
 use Rattle.judge.proofs.ClassLists.{OfClass, class-faults-are}
@@ -36,6 +36,16 @@ module _ (f : ℕ → List ℕ) where
   pub mark-all-end : (ws xs : List ℕ) (i : ℕ) → length xs ≤ i → markAll ws f (drop i xs) ≡ ws
   unfolding markAll
   mark-all-end ws xs i h = rw (drop-of-length-le xs h)
+
+module _ (n : ℕ) (gs : List Gate) where
+  pub with-all-more : (c : Coverage) (xs : List ℕ) (i : ℕ) → i < length xs
+      → withAll c n gs (drop i xs) ≡ withAll (withVector c n gs (getD xs i 0)) n gs (drop (i + 1) xs)
+  unfolding withAll
+  with-all-more c xs i h = rw (add-one i, drop-cons xs i 0 h)
+
+  pub with-all-end : (c : Coverage) (xs : List ℕ) (i : ℕ) → length xs ≤ i → withAll c n gs (drop i xs) ≡ c
+  unfolding withAll
+  with-all-end c xs i h = rw (drop-of-length-le xs h)
 
 -- ---- a verdict goes by which faults of the list are caught
 

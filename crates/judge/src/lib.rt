@@ -11,6 +11,7 @@ use refusals::Refusal;
 use simulator::Fault;
 
 pub mod coverage;
+pub mod covering;
 pub mod marks;
 pub mod rules;
 pub mod sets;

@@ -133,23 +133,26 @@ def code(n, ind):
     if h == "Typed.t-block": return code(a[11], ind)
     if h == "Typed.t-loop-by": return f"turns {a[10]} (λ u vs. ?) (λ u vs. ?) ({code(a[14], ind + 4)})"
     raise SystemExit("no code for " + h)
-def enums(t):
-    "an enum's written-out MIR type: the result's is tyR r, and another's is CK.ty, of the file that HELD names"
+def named(t):
+    "the written-out MIR type of an enum or a struct: the result's is tyR r, and another enum's is CK.ty, of the file that HELD names"
+    at = 0
     while True:
-        m = re.search(r"Syntax\.tyEnum ", t)
+        m = re.compile(r"Syntax\.ty(Enum|Struct) ").search(t, at)
         if not m: return t
         j, d, args = m.end(), 0, 0
         while args < 2:
             d += (t[j] in "(") - (t[j] in ")"); j += 1
             if d == 0 and t[j - 1] == ")": args += 1
             if d == 0 and args < 2 and t[j] == " ": j += 1
-        name = "".join(chr(int(x)) for x in re.findall(r"_∷_ (\d+)", t[m.end():t.index("Syntax.ttcons", m.end())]))
-        t = t[:m.start()] + ("tyR r" if name.startswith(crate.split("_")[0] + "::") or name.startswith(twin + "::") else "CK.ty") + t[j:]
+        name = "".join(chr(int(x)) for x in re.findall(r"_∷_ (\d+)", t[m.end():t.index("cons", m.end())]))
+        own = name.startswith(crate.split("_")[0] + "::") or name.startswith(twin + "::")
+        at = m.end() if m.group(1) == "Struct" and not own else m.start()
+        if at == m.start(): t = t[:at] + ("tyR r" if own else "CK.ty") + t[j:]
 twin = os.environ.get("TWIN", "")
 held = os.environ.get("HELD", "")
-body = enums(re.sub(r"\s+\n", "\n", code(top, 4))).replace("(CK.ty)", "CK.ty")
-body = re.sub(r"\(λ w\. Local\.room-whole \(w \.𝓤\) \(w \.H\) \(w \.A\) \(w \.W\) \(Declared'*\.row Checked\.the-type\) CK\.ty Path'\.refl\)", "(let-go CK.elem)", body)
-body = re.sub(r"Yields\.yields-copy \(w \.𝓤\) \(w \.H\) \(w \.A\) \(w \.W\) \(λ ρ\. Unit\) \(Declared'*\.row Checked\.the-type\) .*? λ ρ told\. Local\.whole-mem \(w \.𝓤\) \(w \.H\) \(w \.A\) \(w \.W\) \(Declared'*\.row Checked\.the-type\) ρ", "yields CK.elem w", body)
+body = named(re.sub(r"\s+\n", "\n", code(top, 4))).replace("(CK.ty)", "CK.ty")
+body = re.sub(r"\(λ w\. Local\.room-whole \(w \.𝓤\) \(w \.H\) \(w \.A\) \(w \.W\) \(Declared'*\.row \w+\.the-type\) CK\.ty Path'\.refl\)", "(let-go CK.elem)", body)
+body = re.sub(r"Yields\.yields-copy \(w \.𝓤\) \(w \.H\) \(w \.A\) \(w \.W\) \(λ ρ\. Unit\) \(Declared'*\.row \w+\.the-type\) .*? λ ρ told\. Local\.whole-mem \(w \.𝓤\) \(w \.H\) \(w \.A\) \(w \.W\) \(Declared'*\.row \w+\.the-type\) ρ", "yields CK.elem w", body)
 for m in re.finditer(r"abbrev (put\d+) :((?:.|\n)*?)\n  \1 =((?:.|\n)*?)\n\n", L):
     ty = re.sub(r"\s+", " ", m.group(2)).split("→")[0].strip(); t = re.sub(r"\s+", " ", m.group(3))
     many = " × " in ty; sets = {}
@@ -198,7 +201,7 @@ body = re.sub(r"\( +", "(", re.sub(r",? +\)|,\)", ")", lists(body))).replace("((
 text = f"""derivation : (κs : Lfts {lifetimes}) (qs : Shares {lifetimes}) (bs : List ℕ) → Code tys bs Kn (Γin {lifetimes} ps r xs {slots} κs qs) mir.t-1 (Δret {lifetimes} ps r xs {slots} κs qs)
 derivation κs qs bs ={body}
 """
-xs = enums(lists(grab("xs"))) if "tyEnum" not in grab("xs") else lists(enums(grab("xs")).replace("(CK.ty)", "CK.ty"))
+xs = named(lists(grab("xs"))) if "tyEnum" not in grab("xs") else lists(named(grab("xs")).replace("(CK.ty)", "CK.ty"))
 kn = " × ".join(f"Known (w .𝓤) (w .H) (w .A) (w .W) (w .𝓣) {k[0]} {a}.ps {a}.r {b}.Asked {b}.Learnt {k[5]}" for a, b, k, g, at, st in kinds.values()) or "Unit {1}"
 pins = "".join(f"abbrev G{n} : Lfts {lifetimes} → Shares {lifetimes} → List ℕ → Cx\nG{n} κs qs bs = {lists(t)}\n\n" for n, t in shown.items())
 main = f"""abbrev xs : List Ty

@@ -1,0 +1,1 @@
+pub mod nuf_drop_records
