@@ -54,7 +54,8 @@ line-bytes letter rest = rw (length-append rest (10 ∷ [])) (omega arith)
 
 -- ---- the line of a class whose numbers have so many digits, and whose first fault takes so many bytes
 
-first-fits : (class most : ℕ) (fs : List Fault) → 3 ≤ most → All (λ f. length (each field (shown class f)) ≤ most) fs → length (firstText class fs) ≤ most
+first-fits : (class most : ℕ) (fs : List Fault) → 3 ≤ most → All (λ f. length (each field (shown class f)) ≤ most) fs
+    → length (firstText class fs) ≤ most
 unfolding firstText
 first-fits class most [] h w = h
 first-fits class most (f ∷ fs) h w = w .0
@@ -84,7 +85,8 @@ module _ (n : ℕ) (gs : List Gate) (xs : List ℕ) (class : ℕ) where
 
 fields-three : (a b d : ℕ) → length (each field (a ∷ b ∷ d ∷ [])) ≡ length (field a) + length (field b) + length (field d)
 unfolding each
-fields-three a b d = rw (length-append (field a) (field b ++ (field d ++ [])), length-append (field b) (field d ++ []), length-append (field d) []) (omega arith)
+fields-three a b d =
+    rw (length-append (field a) (field b ++ (field d ++ [])), length-append (field b) (field d ++ []), length-append (field d) []) (omega arith)
 
 fields-one : (a : ℕ) → length (each field (a ∷ [])) ≡ length (field a)
 unfolding each
@@ -106,7 +108,12 @@ module _ (n : ℕ) (gs : List Gate) (xs : List ℕ) (lines : n ≤ 32) (gates : 
       (omega arith)
       (rw (list-one n gs 1 refl)
       (all-stuck _ n gs (λ i j v a b d. rw (fields-three i j v)
-      (omega (arith, gate-fits i (omega arith), line-fits j (omega (arith, site-line n gs i j (eq-eqb _ 1 b))), field-fits 9 1 v refl (omega arith) (omega arith))))))
+      (omega (
+        arith,
+        gate-fits i (omega arith),
+        line-fits j (omega (arith, site-line n gs i j (eq-eqb _ 1 b))),
+        field-fits 9 1 v refl (omega arith) (omega arith),
+      )))))
 
   gate-line : length (classText n gs xs 2) ≤ 17
   unfolding shown faultOf
@@ -193,4 +200,5 @@ field-most x = omega (arith, digits-most 10 x)
 
 pub refused-fits : (number place : ℕ) → length (refusedText number place) ≤ 100
 unfolding refusedText
-refused-fits number place = rw (line-bytes 69 (each field (number ∷ place ∷ [])), fields-two number place) (omega (arith, field-most number, field-most place))
+refused-fits number place =
+    rw (line-bytes 69 (each field (number ∷ place ∷ [])), fields-two number place) (omega (arith, field-most number, field-most place))

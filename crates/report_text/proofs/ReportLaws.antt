@@ -46,11 +46,13 @@ job-line n words xs = rw (gates-count words) (bare 74 (n ∷ length words / 3 �
 
 pub job-put : (text : List ℕ) (n classes : ℕ) (words xs : List ℕ) (end : ℕ)
     → end ≡ 0 + length (line 74 (each field (n ∷ length (gatesOf words) ∷ length xs ∷ [])))
-    → sets (sets text 0 (line 74 (each field (n ∷ length (gatesOf words) ∷ length xs ∷ [])))) end (each (classText n (gatesOf words) xs) (wanted classes))
+    → sets (sets text 0 (line 74 (each field (n ∷ length (gatesOf words) ∷ length xs ∷ [])))) end
+    (each (classText n (gatesOf words) xs) (wanted classes))
     ≡ sets text 0 (jobText n classes words xs)
 unfolding jobText
 job-put text n classes words xs end e =
-    sets-append text 0 end (line 74 (each field (n ∷ length (gatesOf words) ∷ length xs ∷ []))) (each (classText n (gatesOf words) xs) (wanted classes)) (sym e)
+    sets-append text 0 end (line 74 (each field (n ∷ length (gatesOf words) ∷ length xs ∷ [])))
+    (each (classText n (gatesOf words) xs) (wanted classes)) (sym e)
 
 -- ---- what a reading tells
 
@@ -89,7 +91,8 @@ read-set bytes words vectors e =
     vectors-ok (linesIn bytes) (gateWords bytes) (vectorWords bytes)
     (rw (
       lines-right (linesIn bytes) (λ z. omega (arith, ok .head .some-lines)) (ok .head .lines-fit),
-      sizes-right (gateWords bytes) (length (vectorWords bytes)) (omega (arith, gates, ok .head .gates-fit)) (omega (arith, many, ok .head .vectors-fit)),
+      sizes-right (gateWords bytes) (length (vectorWords bytes)) (omega (arith, gates, ok .head .gates-fit))
+          (omega (arith, many, ok .head .vectors-fit)),
       eq-eqb _ 0 (ok .gates-good),
       eq-eqb _ 0 (ok .vectors-good),
     ))
@@ -138,7 +141,8 @@ module _ (bytes gates vectors : List ℕ) (n k d m : ℕ) (w : JobRead bytes gat
   job-text = rw (w .lines-are, w .classes-are, w .gates-are, w .vectors-are) (report-job bytes (w .passed))
 
 -- equal texts are put alike
-pub text-as : (text last : List ℕ) (end : ℕ) {t u : List ℕ} → t ≡ u → (end ≡ length t) × (last ≡ sets text 0 t) → (end ≡ length u) × (last ≡ sets text 0 u)
+pub text-as : (text last : List ℕ) (end : ℕ) {t u : List ℕ} → t ≡ u
+    → (end ≡ length t) × (last ≡ sets text 0 t) → (end ≡ length u) × (last ≡ sets text 0 u)
 text-as text last end same h = rw (← same) h
 
 -- ---- the call
@@ -179,7 +183,8 @@ module _ (bytes out : List ℕ) (end : ℕ) (is : end ≡ length (reportText byt
       → (answered (end ∷ []) ≡ firstOf rows (answered (length (reportText bytes) ∷ []))) × (last ≡ after rows made out)
   unfolding reportRows
   report-put h last e =
-      rw (le-ltb (length out) (length (reportText bytes)) (omega arith)) (ap (λ n. answered (n ∷ [])) is, e ∙ sets-front out (reportText bytes) (omega arith))
+      rw (le-ltb (length out) (length (reportText bytes)) (omega arith))
+      (ap (λ n. answered (n ∷ [])) is, e ∙ sets-front out (reportText bytes) (omega arith))
 
 -- ---- what callers may lean on
 

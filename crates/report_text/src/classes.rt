@@ -109,7 +109,8 @@ pub fn put_classes(
     requires { ⌜ All (λ x. x < 2 ^ lines) (now vectors) ⌝ }
     requires { ⌜ at + length (each (classText lines (gatesOf (now gates)) (now vectors)) (wanted classes)) ≤ length (now out) ⌝ }
     ensures { λ r. ⌜ (r ≡ at + length (each (classText lines (gatesOf (now (gates .entry))) (now (vectors .entry))) (wanted classes)))
-        × (now (out .exit) ≡ sets (now (out .entry)) at (each (classText lines (gatesOf (now (gates .entry))) (now (vectors .entry))) (wanted classes))) ⌝ }
+        × (now (out .exit) ≡ sets (now (out .entry)) at
+        (each (classText lines (gatesOf (now (gates .entry))) (now (vectors .entry))) (wanted classes))) ⌝ }
 {
     let mut end = at;
     let mut class = 1;

@@ -50,7 +50,8 @@ pub fn report(bytes: &[u8], out: &mut [u8]) -> Reported
 
 // The report's text, and where it ends. It has at most 100 bytes.
 fn put_report(bytes: &[u8], text: &mut [u8; 100]) -> usize
-    ensures { λ r. ⌜ (r ≡ length (reportText (now (bytes .entry)))) × (now (text .exit) ≡ sets (now (text .entry)) 0 (reportText (now (bytes .entry)))) ⌝ }
+    ensures { λ r. ⌜ (r ≡ length (reportText (now (bytes .entry))))
+        × (now (text .exit) ≡ sets (now (text .entry)) 0 (reportText (now (bytes .entry)))) ⌝ }
 {
     let mut gates = [0u32; 3072];
     let mut vectors = [0u32; 2048];

@@ -1,4 +1,5 @@
--- `report_text::put_report` meets its contract: what is read is refused, and has the refusal's line, or is the job whose text is put. Assumes nothing.
+-- `report_text::put_report` meets its contract: what is read is refused, and has the refusal's line, or is
+-- the job whose text is put. Assumes nothing.
 use Prim.Native.Nat.{_*_}
 use mathlib.Core.Path.{ap, sym, _∙_}
 use native.Mathlib.Omega.{arith}
@@ -79,8 +80,10 @@ put-job-requires c κs =
 
 returns : tie.Need-returns
 returns c =
-    let r = c .before .before .before .before .before .before .before .read-job in
-    text-as _ _ _ (report-refused _ _ _ _ _ _ (omega arith) (omega arith) (ap toldRead (sym (c .before .before .before .refusal .given .1)) ∙ r .ensures .0))
+    let c3 = c .before .before .before in
+    let c7 = c3 .before .before .before .before in
+    let r = c7 .read-job in
+    text-as _ _ _ (report-refused _ _ _ _ _ _ (omega arith) (omega arith) (ap toldRead (sym (c3 .refusal .given .1)) ∙ r .ensures .0))
     (c .put-refused .ensures)
 
 returns-2 : tie.Need-returns-2

@@ -15,22 +15,30 @@ returns c = report-short _ _ _ (c .before .put-report .ensures .0) (omega arith)
 
 array-share-prefix-text : tie.Need-array-share-prefix-text
 array-share-prefix-text c =
+    let c6 = c .before .before .before .before .before .before in
     let put = c .before .before .put-report in
-    text-end (c .before .before .before .before .before .before .args .bytes .now) (put .last .1 .0) (put .result) (put .ensures .0) (put .ensures .1) .0
+    text-end (c6 .args .bytes .now) (put .last .1 .0) (put .result) (put .ensures .0) (put .ensures .1) .0
 
 slice-aggregate-put-bytes : tie.Need-slice-aggregate-put-bytes
 slice-aggregate-put-bytes c =
-    let put = c .before .before .before .put-report in
-    sym (length-take-le (put .result) (put .last .1 .0) (text-end (c .before .before .before .before .before .before .before .args .bytes .now) _ _ (put .ensures .0) (put .ensures .1) .0))
+    let c3 = c .before .before .before in
+    let c7 = c3 .before .before .before .before in
+    let put = c3 .put-report in
+    sym (length-take-le (put .result) (put .last .1 .0) (text-end (c7 .args .bytes .now) _ _ (put .ensures .0) (put .ensures .1) .0))
 
 put-bytes-requires : tie.Need-put-bytes-requires
 put-bytes-requires c κs =
-    let put = c .before .before .before .put-report in
-    let k = length-take-le (put .result) (put .last .1 .0) (text-end (c .before .before .before .before .before .before .before .args .bytes .now) _ _ (put .ensures .0) (put .ensures .1) .0) in
+    let c3 = c .before .before .before in
+    let c7 = c3 .before .before .before .before in
+    let put = c3 .put-report in
+    let k = length-take-le (put .result) (put .last .1 .0) (text-end (c7 .args .bytes .now) _ _ (put .ensures .0) (put .ensures .1) .0) in
     omega (arith, k)
 
 cast-t13 : tie.Need-cast-t13
-cast-t13 c = omega (arith, c .before .before .before .before .before .before .put-report .ensures .0, report-fits (c .before .before .before .before .before .before .before .before .before .before .args .bytes .now))
+cast-t13 c =
+    let c6 = c .before .before .before .before .before .before in
+    let c10 = c6 .before .before .before .before in
+    omega (arith, c6 .put-report .ensures .0, report-fits (c10 .args .bytes .now))
 
 same-length : tie.Need-same-length
 same-length c = search needs

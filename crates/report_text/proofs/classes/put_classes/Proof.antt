@@ -31,9 +31,11 @@ loop-holds c =
 
 put-wanted-requires : tie.Need-put-wanted-requires Inv-loop μ-loop
 put-wanted-requires c κs =
+    let c6 = c .before .before .before .before .before .before in
     let l = c .before .before .loop in
-    let a = c .before .before .before .before .before .before in
-    let w = turn-room (a .args .lines) (gatesOf (a .args .gates .now)) (a .args .vectors .now) (a .args .classes) (l .class) (l .end) _ (omega arith) refl in
+    let a = c6 in
+    let w = turn-room (a .args .lines) (gatesOf (a .args .gates .now)) (a .args .vectors .now) (a .args .classes)
+    (l .class) (l .end) _ (omega arith) refl in
     (a .pre .0, ((l .inv .0, (omega arith, a .pre .1 .0)), omega arith))
 
 add-class : tie.Need-add-class Inv-loop μ-loop
@@ -44,9 +46,11 @@ loop-less c = omega arith
 
 loop-again : tie.Need-loop-again Inv-loop μ-loop
 loop-again c =
+    let c5 = c .before .before .before .before .before in
+    let c9 = c5 .before .before .before .before in
     let put = c .before .before .put-wanted in
-    let l = c .before .before .before .before .before .loop in
-    let a = c .before .before .before .before .before .before .before .before .before .args in
+    let l = c5 .loop in
+    let a = c9 .args in
     let gs = gatesOf (a .gates .now) in (
       omega arith,
       (
@@ -55,7 +59,8 @@ loop-again c =
           put .kept .0 ∙ l .inv .1 .1 .0,
           (
             turn-room (a .lines) gs (a .vectors .now) (a .classes) (l .class) (l .end) _ (omega arith) (put .ensures .0) ∙ l .inv .1 .1 .1 .0,
-            rw (put .ensures .1) (turn-put (a .lines) gs (a .vectors .now) (a .classes) (l .class) (l .end) _ (omega arith) (put .ensures .0) (l .out))
+            rw (put .ensures .1)
+                (turn-put (a .lines) gs (a .vectors .now) (a .classes) (l .class) (l .end) _ (omega arith) (put .ensures .0) (l .out))
                 ∙ l .inv .1 .1 .1 .1,
           ),
         ),

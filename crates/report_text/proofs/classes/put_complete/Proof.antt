@@ -24,8 +24,10 @@ same-length c = search needs
 
 returns : tie.Need-returns
 returns c =
-    let a = c .before .before .before .before .before .before .before .args in
-    put-as _ _ (a .out .now) _ (ap (λ letter. numbersLine letter (a .caught ∷ a .total ∷ []) true) (c .before .before .before .before .letter-of .ensures))
+    let c4 = c .before .before .before .before in
+    let c7 = c4 .before .before .before in
+    let a = c7 .args in
+    put-as _ _ (a .out .now) _ (ap (λ letter. numbersLine letter (a .caught ∷ a .total ∷ []) true) (c4 .letter-of .ensures))
     (c .before .before .put-line .ensures)
 
 pub put-complete-spec : {M : Type 1} → statement M

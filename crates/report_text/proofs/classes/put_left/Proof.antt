@@ -26,8 +26,11 @@ slice-aggregate-put-line c =
 
 put-line-requires : tie.Need-put-line-requires
 put-line-requires c κs =
-    let a = c .before .before .before .before .before in
-    room-as _ _ (left-line (a .args .class) (a .args .caught) (a .args .total) (a .args .first) _ _ (c .before .before .before .numbers-of .ensures) (c .before .letter-of .ensures))
+    let c3 = c .before .before .before in
+    let c5 = c3 .before .before in
+    let a = c5 in
+    room-as _ _
+    (left-line (a .args .class) (a .args .caught) (a .args .total) (a .args .first) _ _ (c3 .numbers-of .ensures) (c .before .letter-of .ensures))
     (a .pre)
 
 same-length : tie.Need-same-length
@@ -35,8 +38,11 @@ same-length c = search needs
 
 returns : tie.Need-returns
 returns c =
-    let a = c .before .before .before .before .before .before .before .before .args in
-    put-as _ _ _ _ (left-line (a .class) (a .caught) (a .total) (a .first) _ _ (c .before .before .before .before .before .before .numbers-of .ensures) (c .before .before .before .before .letter-of .ensures))
+    let c4 = c .before .before .before .before in
+    let c6 = c4 .before .before in
+    let c8 = c6 .before .before in
+    let a = c8 .args in
+    put-as _ _ _ _ (left-line (a .class) (a .caught) (a .total) (a .first) _ _ (c6 .numbers-of .ensures) (c4 .letter-of .ensures))
     (c .before .before .put-line .ensures)
 
 pub put-left-spec : {M : Type 1} → statement M

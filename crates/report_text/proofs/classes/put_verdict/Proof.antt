@@ -12,14 +12,16 @@ enum-known-verdict c = search needs
 
 put-complete-requires : tie.Need-put-complete-requires
 put-complete-requires c κs =
-    room-as _ _ (ap (verdictText (c .before .before .before .before .before .args .class)) (sym (c .before .before .verdict .given .1))) (c .before .before .before .before .before .pre)
+    let c5 = c .before .before .before .before .before in
+    room-as _ _ (ap (verdictText (c5 .args .class)) (sym (c .before .before .verdict .given .1))) (c5 .pre)
 
 enum-known-verdict-2 : tie.Need-enum-known-verdict-2
 enum-known-verdict-2 c = search needs
 
 put-left-requires : tie.Need-put-left-requires
 put-left-requires c κs =
-    room-as _ _ (ap (verdictText (c .before .before .before .before .before .args .class)) (sym (c .before .before .verdict2 .given .1))) (c .before .before .before .before .before .pre)
+    let c5 = c .before .before .before .before .before in
+    room-as _ _ (ap (verdictText (c5 .args .class)) (sym (c .before .before .verdict2 .given .1))) (c5 .pre)
 
 enum-known-verdict-3 : tie.Need-enum-known-verdict-3
 enum-known-verdict-3 c = search needs
@@ -28,16 +30,24 @@ same-length : tie.Need-same-length
 same-length c = search needs
 
 returns : tie.Need-returns
-returns c = put-as _ _ _ _ (ap (verdictText (c .before .before .before .before .before .before .before .before .args .class)) (sym (c .before .before .before .before .before .verdict .given .1))) (c .before .before .put-complete .ensures)
+returns c =
+    let c5 = c .before .before .before .before .before in
+    let c8 = c5 .before .before .before in
+    put-as _ _ _ _ (ap (verdictText (c8 .args .class)) (sym (c5 .verdict .given .1))) (c .before .before .put-complete .ensures)
 
 same-length-2 : tie.Need-same-length-2
 same-length-2 c = search needs
 
 returns-2 : tie.Need-returns-2
-returns-2 c = put-as _ _ _ _ (ap (verdictText (c .before .before .before .before .before .before .before .before .args .class)) (sym (c .before .before .before .before .before .verdict2 .given .1))) (c .before .before .put-left .ensures)
+returns-2 c =
+    let c5 = c .before .before .before .before .before in
+    let c8 = c5 .before .before .before in
+    put-as _ _ _ _ (ap (verdictText (c8 .args .class)) (sym (c5 .verdict2 .given .1))) (c .before .before .put-left .ensures)
 
 returns-3 : tie.Need-returns-3
-returns-3 c = put-as _ _ _ _ (ap (verdictText (c .before .before .before .before .args .class)) (sym (c .before .verdict3 .given .1))) (omega arith, refl)
+returns-3 c =
+    let c4 = c .before .before .before .before in
+    put-as _ _ _ _ (ap (verdictText (c4 .args .class)) (sym (c .before .verdict3 .given .1))) (omega arith, refl)
 
 pub put-verdict-spec : {M : Type 1} → statement M
 put-verdict-spec =

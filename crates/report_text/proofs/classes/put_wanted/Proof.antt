@@ -1,4 +1,5 @@
--- `report_text::classes::put_wanted` meets its contract: a class that is not wanted has no text, and any other the text of its verdict. Assumes nothing.
+-- `report_text::classes::put_wanted` meets its contract: a class that is not wanted has no text, and any other that
+-- of its verdict. Assumes nothing.
 use Prim.Native.Nat.{_-_}
 use mathlib.Core.Path.{refl, _∙_}
 use native.Mathlib.Omega.{arith}
@@ -20,8 +21,10 @@ value-requires c κs = search needs
 
 returns : tie.Need-returns
 returns c =
-    let a = c .before .before .before .before .before .args in
-    put-as _ _ _ _ (not-wanted (a .lines) (gatesOf (a .gates .now)) (a .vectors .now) (a .classes) (a .class) (omega (arith, c .before .value .ensures)))
+    let c5 = c .before .before .before .before .before in
+    let a = c5 .args in
+    put-as _ _ _ _
+    (not-wanted (a .lines) (gatesOf (a .gates .now)) (a .vectors .now) (a .classes) (a .class) (omega (arith, c .before .value .ensures)))
     (omega arith, refl)
 
 judge-class-requires : tie.Need-judge-class-requires
@@ -29,11 +32,14 @@ judge-class-requires c κs = search needs
 
 put-verdict-requires : tie.Need-put-verdict-requires
 put-verdict-requires c κs =
-    let a = c .before .before .before .before .before .before .before in
+    let c3 = c .before .before .before in
+    let c7 = c3 .before .before .before .before in
+    let a = c7 in
     let n = a .args .lines in
     let gs = gatesOf (a .args .gates .now) in
     let xs = a .args .vectors .now in
-    let on = is-wanted n gs xs (a .args .classes) (a .args .class) (omega (arith, c .before .before .before .value .ensures, bit-le (a .args .classes) (a .args .class - 1))) in
+    let on = is-wanted n gs xs (a .args .classes) (a .args .class)
+    (omega (arith, c3 .value .ensures, bit-le (a .args .classes) (a .args .class - 1))) in
     room-as _ _ (verdict-text n gs xs (a .args .class) (c .judge-class .result) (c .judge-class .ensures) ∙ on) (a .pre .1 .1)
 
 same-length : tie.Need-same-length
@@ -41,11 +47,16 @@ same-length c = search needs
 
 returns-2 : tie.Need-returns-2
 returns-2 c =
-    let a = c .before .before .before .before .before .before .before .before .before .before .args in
+    let c3 = c .before .before .before in
+    let c6 = c3 .before .before .before in
+    let c10 = c6 .before .before .before .before in
+    let a = c10 .args in
     let gs = gatesOf (a .gates .now) in
-    let on = is-wanted (a .lines) gs (a .vectors .now) (a .classes) (a .class) (omega (arith, c .before .before .before .before .before .before .value .ensures, bit-le (a .classes) (a .class - 1))) in
-    let judged = c .before .before .before .judge-class in
-    put-as _ _ _ _ (verdict-text (a .lines) gs (a .vectors .now) (a .class) (judged .result) (judged .ensures) ∙ on) (c .before .before .put-verdict .ensures)
+    let on = is-wanted (a .lines) gs (a .vectors .now) (a .classes) (a .class)
+    (omega (arith, c6 .value .ensures, bit-le (a .classes) (a .class - 1))) in
+    let judged = c3 .judge-class in
+    put-as _ _ _ _ (verdict-text (a .lines) gs (a .vectors .now) (a .class) (judged .result) (judged .ensures) ∙ on)
+    (c .before .before .put-verdict .ensures)
 
 pub put-wanted-spec : {M : Type 1} → statement M
 put-wanted-spec =

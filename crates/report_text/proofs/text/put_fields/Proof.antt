@@ -51,7 +51,8 @@ loop-less c = omega arith
 
 loop-again : tie.Need-loop-again Inv-loop μ-loop
 loop-again c =
-    let l = c .before .before .before .before .before .before in
+    let c6 = c .before .before .before .before .before .before in
+    let l = c6 in
     let a = l .before .before .before .args in
     let put = c .before .before .put-decimal in
     let h : l .loop .i < length (a .numbers .now) = omega arith in (
@@ -60,7 +61,8 @@ loop-again c =
         put .kept .0 ∙ length-set (l .loop .out) (l .loop .end) 32 ∙ l .loop .inv .1 .0,
         (
           fields-room (a .numbers .now) (l .loop .i) (l .loop .end) _ h (put .ensures .0) ∙ l .loop .inv .1 .1 .0,
-          rw (put .ensures .1) (fields-put (a .numbers .now) (l .loop .i) (l .loop .end) _ h (put .ensures .0) (l .loop .out)) ∙ l .loop .inv .1 .1 .1,
+          rw (put .ensures .1)
+              (fields-put (a .numbers .now) (l .loop .i) (l .loop .end) _ h (put .ensures .0) (l .loop .out)) ∙ l .loop .inv .1 .1 .1,
         ),
       ),
     )
