@@ -357,7 +357,7 @@ fn count_fields(count: raw::Count) -> [u32; 3] {
 }
 
 fn judged_fields(judged: raw::Judged) -> [u32; 9] {
-    let [class, place, line, value] = judged.first.into();
+    let [class, place, line, value] = <[u32; 4]>::from(judged.first);
     [
         judged.number,
         judged.place,

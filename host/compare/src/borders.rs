@@ -86,8 +86,10 @@ fn several_rules_at_once(tally: &mut Tally) -> Result<(), String> {
                 let mut gates = long_gates(2, depth);
                 gates[1] = bad_gate;
                 for count in [2048, 2049] {
-                    every_set_call(tally, lines, &gates, &vec![3; count])?;
-                    every_set_call(tally, lines, &gates, &vec![4; count])?;
+                    // all four inputs come soon, so that the simulator's work ends soon
+                    let vectors: Vec<u32> = (0..count).map(|v| v % 4).collect();
+                    every_set_call(tally, lines, &gates, &vectors)?;
+                    every_set_call(tally, lines, &gates, &[&[4], &vectors[1..]].concat())?;
                 }
             }
         }
@@ -228,8 +230,14 @@ fn classes_wanted(tally: &mut Tally) -> Result<(), String> {
 
 fn longest_job(tally: &mut Tally) -> Result<(), String> {
     let mut random = Random::of_round(0, 0);
-    let gates = long_gates(32, 1024);
     let vectors: Vec<u32> = (0..2048).map(|_| random.word()).collect();
+    let mut gates = Vec::new();
+    for gate in 0..1024u32 {
+        // two controls at most: few random vectors fire a gate with many
+        let target = gate % 32;
+        let controls = (1 << (gate % 31) | 1 << (gate % 29)) & !(1 << target);
+        gates.extend([controls, 0, target]);
+    }
     job_calls(tally, 32, &gates, &vectors, 15)
 }
 

@@ -15,13 +15,20 @@ mod tally;
 
 pub use tally::Tally;
 
-/// Cases that are the same in every run. Answers with how many were compared.
-pub fn fixed() -> Result<u64, String> {
-    let mut tally = Tally::new("fixed cases");
-    samples::compare(&mut tally)?;
-    small::compare(&mut tally)?;
-    images::compare(&mut tally)?;
-    borders::compare(&mut tally)?;
+/// Cases that are the same in every run, by subject.
+pub const FIXED: [(&str, Part); 4] = [
+    ("the paper's samples", samples::compare),
+    ("small circuits", small::compare),
+    ("damaged images", images::compare),
+    ("borders", borders::compare),
+];
+
+type Part = fn(&mut Tally) -> Result<(), String>;
+
+/// Compares one subject. Answers with the number of cases.
+pub fn fixed(subject: &str, part: Part) -> Result<u64, String> {
+    let mut tally = Tally::new(subject);
+    part(&mut tally)?;
     Ok(tally.cases())
 }
 

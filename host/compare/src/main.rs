@@ -21,7 +21,10 @@ fn main() -> ExitCode {
 
 fn compare_all() -> Result<u64, String> {
     let rounds = number_from("NUF_ROUNDS")?.unwrap_or(ROUNDS);
-    let mut cases = timed("fixed cases", compare::fixed)?;
+    let mut cases = 0;
+    for (subject, part) in compare::FIXED {
+        cases += timed(subject, || compare::fixed(subject, part))?;
+    }
     for seed in SEEDS.into_iter().chain(number_from("NUF_SEED")?) {
         let name = format!("seed {}, {} rounds", seed, rounds);
         cases += timed(&name, || compare::random(seed, rounds))?;

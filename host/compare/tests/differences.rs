@@ -2,7 +2,9 @@
 
 #[test]
 fn no_fixed_case_differs() {
-    assert!(told(compare::fixed()) > 0);
+    for (subject, part) in compare::FIXED {
+        assert!(told(compare::fixed(subject, part)) > 0);
+    }
 }
 
 #[test]
