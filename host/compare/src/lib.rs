@@ -1,0 +1,40 @@
+//! The proved library held against the simulator: the same questions to both, and every answer,
+//! refusal and byte of lent memory compared.
+
+mod ask;
+mod borders;
+mod case;
+mod images;
+mod lent;
+mod make;
+mod random;
+mod rounds;
+mod samples;
+mod small;
+mod tally;
+
+pub use tally::Tally;
+
+/// Cases that are the same in every run, by subject.
+pub const FIXED: [(&str, Part); 4] = [
+    ("the paper's samples", samples::compare),
+    ("small circuits", small::compare),
+    ("damaged images", images::compare),
+    ("borders", borders::compare),
+];
+
+type Part = fn(&mut Tally) -> Result<(), String>;
+
+/// Compares one subject. Answers with the number of cases.
+pub fn fixed(subject: &str, part: Part) -> Result<u64, String> {
+    let mut tally = Tally::new(subject);
+    part(&mut tally)?;
+    Ok(tally.cases())
+}
+
+/// Random cases from a seed, so many rounds.
+pub fn random(seed: u64, rounds: u64) -> Result<u64, String> {
+    let mut tally = Tally::new("random cases");
+    rounds::compare(&mut tally, seed, rounds)?;
+    Ok(tally.cases())
+}

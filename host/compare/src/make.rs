@@ -1,0 +1,260 @@
+//! Random circuits, faults, sets and job images, good ones and damaged ones.
+
+use crate::random::Random;
+use model::{image_of, Job};
+
+pub struct Drawn {
+    pub lines: u32,
+    pub gates: Vec<u32>,
+}
+
+impl Drawn {
+    pub fn depth(&self) -> u32 {
+        (self.gates.len() / 3) as u32
+    }
+
+    /// All lines 1. Also for numbers of lines that no circuit has.
+    pub fn ones(&self) -> u32 {
+        ones(self.lines)
+    }
+}
+
+pub fn ones(lines: u32) -> u32 {
+    match lines {
+        0..=31 => (1 << lines) - 1,
+        _ => u32::MAX,
+    }
+}
+
+/// A good circuit, mostly a small one.
+pub fn circuit(random: &mut Random) -> Drawn {
+    let most_lines = random.pick(&[3, 4, 5, 6, 6, 8, 13, 32]);
+    let most_gates = random.pick(&[2, 4, 6, 8, 8, 10, 12, 40]);
+    let lines = 1 + random.upto(most_lines - 1);
+    let depth = random.upto(most_gates) as usize;
+    Drawn {
+        lines,
+        gates: gates(random, lines, depth),
+    }
+}
+
+pub fn gates(random: &mut Random, lines: u32, depth: usize) -> Vec<u32> {
+    let mut words = Vec::new();
+    for _ in 0..depth {
+        let target = random.upto(lines - 1);
+        let thinned = (0..random.upto(2)).fold(random.word(), |mask, _| mask & random.word());
+        let controls = thinned & ones(lines) & !(1 << target);
+        words.extend([controls, 0, target]);
+    }
+    words
+}
+
+/// Breaks one or more rules of a circuit.
+pub fn damage(random: &mut Random, drawn: &mut Drawn) {
+    loop {
+        damage_once(random, drawn);
+        if !random.one_in(4) {
+            return;
+        }
+    }
+}
+
+fn damage_once(random: &mut Random, drawn: &mut Drawn) {
+    let kind = random.upto(6);
+    if kind == 0 {
+        drawn.lines = random.pick(&[0, 33, 34, 64, 65, u32::MAX]);
+        return;
+    }
+    if kind == 1 || drawn.gates.len() < 3 {
+        for _ in 0..1 + random.upto(1) {
+            drawn.gates.push(random.upto(1));
+        }
+        return;
+    }
+    let gate = 3 * random.index(drawn.gates.len() / 3);
+    let target = drawn.gates[gate + 2];
+    match kind {
+        2 => drawn.gates[gate] |= 1 << random.upto(31),
+        3 => drawn.gates[gate + 1] = 1 << random.upto(31),
+        4 => drawn.gates[gate + 2] = drawn.lines.wrapping_add(random.upto(1)),
+        5 => drawn.gates[gate] |= 1u32.checked_shl(target).unwrap_or(1),
+        _ => drawn.gates[gate + random.index(3)] = random.word(),
+    }
+}
+
+/// A state of the circuit, or one too large.
+pub fn state(random: &mut Random, drawn: &Drawn) -> u32 {
+    match random.upto(24) {
+        0 => drawn.ones().wrapping_add(1),
+        1 => random.word(),
+        2 => drawn.ones(),
+        3 => 0,
+        _ => random.word() & drawn.ones(),
+    }
+}
+
+pub fn states(random: &mut Random, drawn: &Drawn) -> Vec<u32> {
+    let most = random.pick(&[0, 2, 5, 12]);
+    let mut states: Vec<u32> = (0..random.upto(most))
+        .map(|_| random.word() & drawn.ones())
+        .collect();
+    if !states.is_empty() && random.one_in(8) {
+        let at = random.index(states.len());
+        states[at] = state(random, drawn);
+    }
+    states
+}
+
+/// A level, or one behind the last gate.
+pub fn level(random: &mut Random, drawn: &Drawn) -> u32 {
+    match random.upto(15) {
+        0 => drawn.depth() + 1,
+        1 => random.word(),
+        _ => random.upto(drawn.depth()),
+    }
+}
+
+/// Four words: a fault of the circuit, or near misses.
+pub fn fault(random: &mut Random, drawn: &Drawn) -> [u32; 4] {
+    if random.one_in(6) {
+        bad_fault(random, drawn)
+    } else {
+        good_fault(random, drawn)
+    }
+}
+
+fn bad_fault(random: &mut Random, drawn: &Drawn) -> [u32; 4] {
+    let mut fault = good_fault(random, drawn);
+    let field = random.index(4);
+    fault[field] = match field {
+        0 => random.pick(&[0, 1, 2, 3, 4, 5, 6, 255, 256, 257, u32::MAX]),
+        1 => random.pick(&[0, drawn.depth(), drawn.depth() + 1, u32::MAX]),
+        2 => random.pick(&[0, 1, 31, 32, 33, u32::MAX, drawn.lines]),
+        _ => random.pick(&[0, 1, 2, u32::MAX]),
+    };
+    fault
+}
+
+pub fn good_fault(random: &mut Random, drawn: &Drawn) -> [u32; 4] {
+    let line = random.upto(drawn.lines.clamp(1, 32) - 1);
+    if drawn.depth() == 0 || random.one_in(3) {
+        return [1, random.upto(drawn.depth()), line, random.upto(1)];
+    }
+    let gate = random.index(drawn.gates.len() / 3);
+    let place = gate as u32 + 1;
+    let (controls, target) = (drawn.gates[3 * gate], drawn.gates[3 * gate + 2]);
+    if line == target || random.one_in(3) {
+        [2, place, 0, 0]
+    } else if controls >> line & 1 == 1 {
+        [3, place, line, 0]
+    } else {
+        [4, place, line, 0]
+    }
+}
+
+/// Entries of a multiple fault, mostly good ones.
+pub fn entries(random: &mut Random, drawn: &Drawn) -> Vec<u32> {
+    let mut entries: Vec<[u32; 4]> = Vec::new();
+    for _ in 0..random.upto(6) {
+        let level = random.upto(drawn.depth());
+        let line = random.upto(drawn.lines.clamp(1, 32) - 1);
+        let twice = entries.iter().any(|e| e[1] == level && e[2] == line);
+        if !twice || random.one_in(8) {
+            entries.push([1, level, line, random.upto(1)]);
+        }
+    }
+    if !entries.is_empty() && random.one_in(8) {
+        let at = random.index(entries.len());
+        entries[at] = fault(random, drawn);
+    }
+    with_leftovers(random, entries.concat())
+}
+
+/// A list to drop faults from, with blanks and words left over now and then.
+pub fn faults(random: &mut Random, drawn: &Drawn) -> Vec<u32> {
+    let most = random.pick(&[0, 3, 8, 20]);
+    let mut list: Vec<[u32; 4]> = (0..random.upto(most))
+        .map(|_| good_fault(random, drawn))
+        .collect();
+    if !list.is_empty() && random.one_in(6) {
+        let at = random.index(list.len());
+        list[at] = bad_fault(random, drawn);
+    }
+    if random.one_in(8) {
+        list.extend(vec![model::BLANK; 1 + random.index(3)]);
+    }
+    with_leftovers(random, list.concat())
+}
+
+fn with_leftovers(random: &mut Random, mut words: Vec<u32>) -> Vec<u32> {
+    if random.one_in(10) {
+        for _ in 0..1 + random.upto(2) {
+            words.push(random.upto(1));
+        }
+    }
+    words
+}
+
+/// A number near the one that is needed.
+pub fn room(random: &mut Random, needed: usize) -> usize {
+    match random.upto(7) {
+        0 => needed.saturating_sub(1),
+        1 => needed + 1,
+        2 => random.upto(needed as u32) as usize,
+        3 => needed + random.index(20),
+        _ => needed,
+    }
+}
+
+/// A job image, whole or damaged.
+pub fn image(random: &mut Random, job: &Job) -> Vec<u8> {
+    let mut image = image_of(job);
+    match random.upto(9) {
+        0 => flip_bit(random, &mut image),
+        1 => change_header(random, &mut image),
+        2 => image.truncate(random.index(image.len() + 1)),
+        3 => image.extend((0..=random.upto(13)).map(|at| at as u8)),
+        4 => {
+            let at = random.index(image.len());
+            image[at] = random.byte();
+        }
+        5 => image = bytes(random),
+        _ => {}
+    }
+    image
+}
+
+pub fn flip_bit(random: &mut Random, image: &mut [u8]) {
+    let at = random.index(image.len());
+    image[at] ^= 1 << random.upto(7);
+}
+
+/// Gives one field of the header a telling value.
+pub fn change_header(random: &mut Random, image: &mut [u8]) {
+    let (at, width) = random.pick(&[
+        (0, 2),
+        (2, 2),
+        (4, 2),
+        (6, 2),
+        (8, 4),
+        (12, 4),
+        (16, 4),
+        (20, 4),
+        (24, 4),
+    ]);
+    let held = image[at..at + width].iter().rev();
+    let held = held.fold(0u32, |number, byte| number << 8 | u32::from(*byte));
+    let near = [held.wrapping_add(1), held.wrapping_sub(1), held << 1];
+    let telling = [0, 1, 32, 33, 15, 16, 1024, 1025, 2048, 2049, u32::MAX];
+    let value = if random.one_in(2) {
+        random.pick(&near)
+    } else {
+        random.pick(&telling)
+    };
+    image[at..at + width].copy_from_slice(&value.to_le_bytes()[..width]);
+}
+
+pub fn bytes(random: &mut Random) -> Vec<u8> {
+    let most = random.pick(&[27, 28, 40, 200]);
+    (0..random.upto(most)).map(|_| random.byte()).collect()
+}

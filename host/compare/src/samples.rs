@@ -1,0 +1,163 @@
+//! The paper's samples, with the answers that the paper prints. Here the simulator has no say.
+
+use crate::tally::Tally;
+use nufsadeem::{gate, report, Circuit, Class, Fault, Job, Refusal};
+use std::fmt::Debug;
+
+pub const LINES: u32 = 3;
+
+pub fn sample_gates() -> Vec<u32> {
+    [gate(&[0, 1], 2), gate(&[0], 1)].concat()
+}
+
+#[rustfmt::skip]
+pub const SAMPLE_IMAGE: [u8; 64] = [
+    0x01, 0x00, 0x03, 0x00, 0x0F, 0x00, 0x00, 0x00, 0x02, 0x00, 0x00, 0x00, 0x03, 0x00, 0x00, 0x00,
+    0x1C, 0x00, 0x00, 0x00, 0x34, 0x00, 0x00, 0x00, 0x40, 0x00, 0x00, 0x00, 0x03, 0x00, 0x00, 0x00,
+    0x00, 0x00, 0x00, 0x00, 0x02, 0x00, 0x00, 0x00, 0x01, 0x00, 0x00, 0x00, 0x00, 0x00, 0x00, 0x00,
+    0x01, 0x00, 0x00, 0x00, 0x00, 0x00, 0x00, 0x00, 0x03, 0x00, 0x00, 0x00, 0x05, 0x00, 0x00, 0x00,
+];
+
+const SAMPLE_REPORT: &str = "J 3 2 3\nS 18 18 ok\nM 2 2 ok\nC 2 3 1 0\nX 0 1 2 2\n";
+
+pub fn compare(tally: &mut Tally) -> Result<(), String> {
+    let gates = sample_gates();
+    let circuit = Circuit::new(LINES, &gates);
+    runs(tally, circuit)?;
+    verdicts(tally, circuit)?;
+    catching(tally, circuit)?;
+    jobs(tally)?;
+    is(
+        tally,
+        "backward set",
+        circuit.backward_set(),
+        Ok(vec![0, 7, 3, 5]),
+    )?;
+    is(
+        tally,
+        "compact set",
+        circuit.compact_set(),
+        Ok(vec![0, 3, 5]),
+    )?;
+    let no_gates = Circuit::new(1, &[]);
+    is(
+        tally,
+        "compact set of one line",
+        no_gates.compact_set(),
+        Ok(vec![0, 1]),
+    )
+}
+
+fn runs(tally: &mut Tally, circuit: Circuit) -> Result<(), String> {
+    let levels = [
+        (3, [3, 7, 5]),
+        (7, [7, 3, 1]),
+        (1, [1, 1, 3]),
+        (6, [6, 6, 6]),
+    ];
+    for (input, states) in levels {
+        for (level, state) in states.into_iter().enumerate() {
+            let level = level as u32;
+            is(tally, "forward", circuit.forward(level, input), Ok(state))?;
+        }
+    }
+    is(tally, "backward", circuit.backward(2, 7), Ok(5))?;
+    is(tally, "backward", circuit.backward(1, 7), Ok(3))?;
+    let refusal = Refusal {
+        number: 12,
+        place: 0,
+    };
+    is(
+        tally,
+        "a level too high",
+        circuit.forward(3, 0),
+        Err(refusal),
+    )
+}
+
+fn verdicts(tally: &mut Tally, circuit: Circuit) -> Result<(), String> {
+    let sets = [
+        (
+            circuit,
+            vec![0, 7],
+            15,
+            18,
+            Some(Fault::stuck_at(1, 2, false)),
+        ),
+        (
+            circuit,
+            vec![0, 7, 3],
+            17,
+            18,
+            Some(Fault::stuck_at(2, 1, false)),
+        ),
+        (
+            Circuit::new(1, &[]),
+            vec![],
+            0,
+            2,
+            Some(Fault::stuck_at(0, 0, false)),
+        ),
+    ];
+    for (circuit, set, caught, total, first) in sets {
+        for verdict in [circuit.judge(&set, 1u32), circuit.cover(&set, 1u32)] {
+            let told = verdict.map(|v| (v.caught, v.total, v.first_uncaught));
+            is(tally, "verdict", told, Ok((caught, total, first)))?;
+        }
+    }
+    let nothing = Circuit::new(1, &[]).judge(&[], Class::MissingGate);
+    let told = nothing.map(|v| (v.caught, v.total, v.is_complete()));
+    is(tally, "verdict on no faults", told, Ok((0, 0, true)))
+}
+
+fn catching(tally: &mut Tally, circuit: Circuit) -> Result<(), String> {
+    let faults = [
+        (Fault::missing_gate(1), [3, 7]),
+        (Fault::missing_control(1, 0), [2, 6]),
+        (Fault::extra_control(2, 2), [1, 7]),
+    ];
+    for (fault, vectors) in faults {
+        for vector in 0..8 {
+            let expected = Ok(vectors.contains(&vector));
+            is(tally, "catches", circuit.catches(vector, fault), expected)?;
+        }
+    }
+    Ok(())
+}
+
+fn jobs(tally: &mut Tally) -> Result<(), String> {
+    let job = Job {
+        lines: LINES,
+        classes: 15,
+        gates: sample_gates(),
+        vectors: vec![0, 3, 5],
+    };
+    is(tally, "image", job.write(), Ok(SAMPLE_IMAGE.to_vec()))?;
+    is(tally, "job", Job::read(&SAMPLE_IMAGE), Ok(job))?;
+    is(
+        tally,
+        "report",
+        report(&SAMPLE_IMAGE),
+        SAMPLE_REPORT.to_string(),
+    )?;
+    is(
+        tally,
+        "report",
+        report(&SAMPLE_IMAGE[..27]),
+        "E 1 0\n".to_string(),
+    )
+}
+
+fn is<T: PartialEq + Debug>(
+    tally: &mut Tally,
+    what: &str,
+    library: T,
+    paper: T,
+) -> Result<(), String> {
+    tally.holds(library == paper, || {
+        format!(
+            "{}: the library says {:?}, the paper {:?}",
+            what, library, paper
+        )
+    })
+}

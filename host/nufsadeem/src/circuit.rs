@@ -1,0 +1,197 @@
+use crate::{raw, Fault, Refusal, Verdict};
+
+/// The most vectors a compact set can have: 2 + floor(log2 S), with S at 12 lines and 1,024 gates.
+const LARGEST_COMPACT_SET: usize = 15;
+
+/// The three words of a gate, in the order of the job image. The lines must be below 32.
+pub fn gate(controls: &[u32], target: u32) -> [u32; 3] {
+    let mask = controls.iter().fold(0, |mask, line| mask | 1 << line);
+    [mask, 0, target]
+}
+
+/// Lines and gates, three words a gate. Whether they make a circuit is for each call to say.
+#[derive(Clone, Copy, PartialEq, Eq, Debug)]
+pub struct Circuit<'a> {
+    lines: u32,
+    gates: &'a [u32],
+}
+
+impl<'a> Circuit<'a> {
+    pub fn new(lines: u32, gates: &'a [u32]) -> Circuit<'a> {
+        Circuit { lines, gates }
+    }
+
+    pub fn lines(&self) -> u32 {
+        self.lines
+    }
+
+    pub fn gates(&self) -> &'a [u32] {
+        self.gates
+    }
+
+    /// The state at a level of the run that starts with `input`.
+    pub fn forward(&self, level: u32, input: u32) -> Result<u32, Refusal> {
+        let run = unsafe {
+            raw::nuf_forward(
+                self.lines,
+                self.gates.as_ptr(),
+                self.gates.len(),
+                level,
+                input,
+            )
+        };
+        Refusal::or(run.number, run.place, run.state)
+    }
+
+    /// The input whose run has `state` at a level.
+    pub fn backward(&self, level: u32, state: u32) -> Result<u32, Refusal> {
+        let run = unsafe {
+            raw::nuf_backward(
+                self.lines,
+                self.gates.as_ptr(),
+                self.gates.len(),
+                level,
+                state,
+            )
+        };
+        Refusal::or(run.number, run.place, run.state)
+    }
+
+    pub fn catches(&self, vector: u32, fault: Fault) -> Result<bool, Refusal> {
+        let catch = unsafe {
+            raw::nuf_catches(
+                self.lines,
+                self.gates.as_ptr(),
+                self.gates.len(),
+                vector,
+                fault,
+            )
+        };
+        Refusal::or(catch.number, catch.place, catch.caught == 1)
+    }
+
+    /// Whether the output differs with all stuck-at faults there at once, four words each.
+    pub fn catches_multiple(&self, vector: u32, entries: &[u32]) -> Result<bool, Refusal> {
+        let catch = unsafe {
+            raw::nuf_catches_multiple(
+                self.lines,
+                self.gates.as_ptr(),
+                self.gates.len(),
+                vector,
+                entries.as_ptr(),
+                entries.len(),
+            )
+        };
+        Refusal::or(catch.number, catch.place, catch.caught == 1)
+    }
+
+    /// Judges a set for a class, given as a [`Class`](crate::Class) or as its code.
+    pub fn judge(&self, vectors: &[u32], class: impl Into<u32>) -> Result<Verdict, Refusal> {
+        Verdict::of(unsafe {
+            raw::nuf_judge(
+                self.lines,
+                self.gates.as_ptr(),
+                self.gates.len(),
+                vectors.as_ptr(),
+                vectors.len(),
+                class.into(),
+            )
+        })
+    }
+
+    /// The same verdict by way of the coverage of all four classes, one vector after the other.
+    pub fn cover(&self, vectors: &[u32], class: impl Into<u32>) -> Result<Verdict, Refusal> {
+        Verdict::of(unsafe {
+            raw::nuf_cover(
+                self.lines,
+                self.gates.as_ptr(),
+                self.gates.len(),
+                vectors.as_ptr(),
+                vectors.len(),
+                class.into(),
+            )
+        })
+    }
+
+    /// A vector that catches the fault.
+    pub fn test_for(&self, fault: Fault) -> Result<u32, Refusal> {
+        let test =
+            unsafe { raw::nuf_test_for(self.lines, self.gates.as_ptr(), self.gates.len(), fault) };
+        Refusal::or(test.number, test.place, test.vector)
+    }
+
+    /// A complete set for stuck-at faults with two vectors more than gates.
+    pub fn backward_set(&self) -> Result<Vec<u32>, Refusal> {
+        let mut set = vec![0; self.gates.len() / 3 + 2];
+        let count = self.backward_set_into(&mut set)?;
+        set.truncate(count);
+        Ok(set)
+    }
+
+    /// The backward set, written to the front of `room`; answers with its size.
+    pub fn backward_set_into(&self, room: &mut [u32]) -> Result<usize, Refusal> {
+        count(unsafe {
+            raw::nuf_backward_set(
+                self.lines,
+                self.gates.as_ptr(),
+                self.gates.len(),
+                room.as_mut_ptr(),
+                room.len(),
+            )
+        })
+    }
+
+    /// A small complete set for stuck-at faults, for at most 12 lines.
+    pub fn compact_set(&self) -> Result<Vec<u32>, Refusal> {
+        let mut set = vec![0; LARGEST_COMPACT_SET];
+        let count = self.compact_set_into(&mut set)?;
+        set.truncate(count);
+        Ok(set)
+    }
+
+    /// The compact set, written to the front of `room`; answers with its size.
+    pub fn compact_set_into(&self, room: &mut [u32]) -> Result<usize, Refusal> {
+        count(unsafe {
+            raw::nuf_compact_set(
+                self.lines,
+                self.gates.as_ptr(),
+                self.gates.len(),
+                room.as_mut_ptr(),
+                room.len(),
+            )
+        })
+    }
+
+    /// Moves the faults that `vector` does not catch to the front, blanks the rest of the list and
+    /// answers with how many stayed.
+    pub fn drop_caught(&self, vector: u32, list: &mut [Fault]) -> Result<usize, Refusal> {
+        count(unsafe {
+            raw::nuf_drop_records(
+                self.lines,
+                self.gates.as_ptr(),
+                self.gates.len(),
+                vector,
+                list.as_mut_ptr(),
+                list.len(),
+            )
+        })
+    }
+
+    /// The same over a list of plain numbers, four a fault.
+    pub fn drop_caught_words(&self, vector: u32, list: &mut [u32]) -> Result<usize, Refusal> {
+        count(unsafe {
+            raw::nuf_drop(
+                self.lines,
+                self.gates.as_ptr(),
+                self.gates.len(),
+                vector,
+                list.as_mut_ptr(),
+                list.len(),
+            )
+        })
+    }
+}
+
+pub(crate) fn count(answer: raw::Count) -> Result<usize, Refusal> {
+    Refusal::or(answer.number, answer.place, answer.count as usize)
+}
