@@ -10,12 +10,12 @@ use refusals::Checked;
 use refusals::Refusal;
 use simulator::Fault;
 
+pub mod checked;
 pub mod coverage;
 pub mod covering;
-pub mod marks;
-pub mod rules;
-pub mod sets;
-pub mod tallies;
+mod marks;
+mod rules;
+mod tallies;
 
 // The verdict on a set for a class.
 pub enum Verdict {
@@ -45,6 +45,6 @@ pub fn judge(lines: u32, gates: &[u32], vectors: &[u32], class: u32) -> Verdict
 {
     match rules::check_judge(lines, gates, vectors, class) {
         Checked::Wrong(refusal) => Verdict::Refused(refusal),
-        Checked::Fine => sets::judge_class(lines, gates, vectors, class),
+        Checked::Fine => checked::judge_class(lines, gates, vectors, class),
     }
 }

@@ -10,7 +10,7 @@ ghost use Rattle.report_text.specs.Report.{letterOf, classText, wanted};
 ghost use Rattle.report_text.specs.Parts.{numbersOf, verdictText, wantedText};
 use crate::text::put_line;
 use judge::Verdict;
-use judge::sets::judge_class;
+use judge::checked::judge_class;
 use simulator::Fault;
 use words::checked::value;
 

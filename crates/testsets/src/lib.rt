@@ -11,10 +11,10 @@ ghost use Rattle.testsets.specs.Answers.{toldMade};
 use refusals::Checked;
 use refusals::Refusal;
 
-pub mod backward;
-pub mod compact;
-pub mod left;
-pub mod rules;
+mod backward;
+mod compact;
+mod left;
+mod rules;
 
 // What the making of a set answers: how many vectors stand in the room.
 pub enum Made {

@@ -6,6 +6,7 @@ mod borders;
 mod case;
 mod images;
 mod lent;
+mod longest_report;
 mod make;
 mod random;
 mod rounds;
@@ -16,11 +17,12 @@ mod tally;
 pub use tally::Tally;
 
 /// Cases that are the same in every run, by subject.
-pub const FIXED: [(&str, Part); 4] = [
+pub const FIXED: [(&str, Part); 5] = [
     ("the paper's samples", samples::compare),
     ("small circuits", small::compare),
     ("damaged images", images::compare),
     ("borders", borders::compare),
+    ("the longest report", longest_report::compare),
 ];
 
 type Part = fn(&mut Tally) -> Result<(), String>;

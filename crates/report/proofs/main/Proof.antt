@@ -44,7 +44,8 @@ array-share-prefix-text c =
 slice-aggregate-write-all : tie.Need-slice-aggregate-write-all
 slice-aggregate-write-all c =
     let told = c .before .before .before .before .before .report in
-    let fits = told-fits _ _ (c .before .before .count .given .0 .0) (ap toldReported (sym (c .before .before .count .given .1)) ∙ told .ensures .0) in
+    let fits = told-fits _ _ (c .before .before .count .given .0 .0)
+    (ap toldReported (sym (c .before .before .count .given .1)) ∙ told .ensures .0) in
     sym (length-take-le (c .before .before .count .given .0 .0) (told .last .1 .0) (omega (arith, fits, told .kept .1 .0)))
 
 write-all-requires : tie.Need-write-all-requires

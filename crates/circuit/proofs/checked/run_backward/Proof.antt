@@ -1,4 +1,5 @@
--- `circuit::checked::run_backward` meets its contract: each turn undoes the last gate of what is left, so the run back is the same from there. Assumes nothing.
+-- `circuit::checked::run_backward` meets its contract: each turn undoes the last gate of what is left, so the run back is the same from there.
+-- Assumes nothing.
 use Prim.Native.Nat.{_+_, _-_, _≤_}
 use mathlib.Core.Path.{_≡_, ap, sym, _∙_}
 use native.Mathlib.Omega.{arith}

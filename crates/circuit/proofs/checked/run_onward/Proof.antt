@@ -1,4 +1,5 @@
--- `circuit::checked::run_onward` meets its contract: each turn takes the state one level up, by the gate that reads the level reached. Assumes nothing.
+-- `circuit::checked::run_onward` meets its contract: each turn takes the state one level up, by the gate that reads the level reached. Assumes
+-- nothing.
 use Prim.Native.Nat.{_-_, _≤_}
 use mathlib.Core.Path.{_≡_, sym, _∙_}
 use native.Mathlib.Omega.{arith}

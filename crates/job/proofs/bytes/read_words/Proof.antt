@@ -42,8 +42,7 @@ loop-less c = omega arith
 
 loop-again : tie.Need-loop-again Inv-loop μ-loop
 loop-again c =
-    let c2 = c .before .before in
-    let l = c2 in
+    let l = c .before .before in
     let a = l .before .before .before .args in (
       omega arith,
       (

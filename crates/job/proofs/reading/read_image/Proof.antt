@@ -9,36 +9,31 @@ use Rattle.job.proofs.reading.read_image.Tie as tie
 
 read-lists-requires : tie.Need-read-lists-requires
 read-lists-requires c κs =
-    let c5 = c .before .before .before .before .before in
-    let a = c5 in
+    let a = c .before .before .before .before .before in
     let ok = read-ok (a .args .image .now) (length (a .args .gates .now)) (length (a .args .vectors .now)) (a .pre) in
     (ok .head .whole, (ok .gates-room, ok .vectors-room))
 
 number-at-2-requires : tie.Need-number-at-2-requires
 number-at-2-requires c κs =
-    let c10 = c .before .before .before .before .before .before .before .before .before .before in
-    let a = c10 in
+    let a = c .before .before .before .before .before .before .before .before .before .before in
     let ok = read-ok (a .args .image .now) (length (a .args .gates .now)) (length (a .args .vectors .now)) (a .pre) in
     omega arith
 
 number-at-2-requires-2 : tie.Need-number-at-2-requires-2
 number-at-2-requires-2 c κs =
-    let c11 = c .before .before .before .before .before .before .before .before .before .before .before in
-    let a = c11 in
+    let a = c .before .before .before .before .before .before .before .before .before .before .before in
     let ok = read-ok (a .args .image .now) (length (a .args .gates .now)) (length (a .args .vectors .now)) (a .pre) in
     omega arith
 
 number-at-4-requires : tie.Need-number-at-4-requires
 number-at-4-requires c κs =
-    let c12 = c .before .before .before .before .before .before .before .before .before .before .before .before in
-    let a = c12 in
+    let a = c .before .before .before .before .before .before .before .before .before .before .before .before in
     let ok = read-ok (a .args .image .now) (length (a .args .gates .now)) (length (a .args .vectors .now)) (a .pre) in
     omega arith
 
 number-at-4-requires-2 : tie.Need-number-at-4-requires-2
 number-at-4-requires-2 c κs =
-    let c13 = c .before .before .before .before .before .before .before .before .before .before .before .before .before in
-    let a = c13 in
+    let a = c .before .before .before .before .before .before .before .before .before .before .before .before .before in
     let ok = read-ok (a .args .image .now) (length (a .args .gates .now)) (length (a .args .vectors .now)) (a .pre) in
     omega arith
 

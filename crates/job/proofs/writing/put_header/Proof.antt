@@ -41,7 +41,6 @@ returns : tie.Need-returns
 returns c =
     let c2 = c .before .before in
     let c7 = c2 .before .before .before .before .before in
-    let c7 = c7 in
     let c11 = c7 .before .before .before .before in
     let c15 = c11 .before .before .before .before in
     rw (c2 .put-words .ensures, c7 .put-24 .ensures, c11 .put-23 .ensures, c15 .put-22 .ensures, c15 .before .before .before .before .put-2 .ensures)

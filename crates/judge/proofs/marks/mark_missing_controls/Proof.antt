@@ -1,4 +1,5 @@
--- `judge::marks::mark_missing_controls` meets its contract: each turn marks the word of one gate and goes on to the level that the gate makes. Assumes nothing.
+-- `judge::marks::mark_missing_controls` meets its contract: each turn marks the word of one gate and goes on to the level that the gate makes.
+-- Assumes nothing.
 use mathlib.Core.Path.{ap}
 use Rattle.circuit.specs.Gates.{gateAt}
 use Prim.Native.Nat.{_+_, _-_, _≤_}

@@ -31,9 +31,8 @@ loop-holds c =
 
 put-wanted-requires : tie.Need-put-wanted-requires Inv-loop μ-loop
 put-wanted-requires c κs =
-    let c6 = c .before .before .before .before .before .before in
+    let a = c .before .before .before .before .before .before in
     let l = c .before .before .loop in
-    let a = c6 in
     let w = turn-room (a .args .lines) (gatesOf (a .args .gates .now)) (a .args .vectors .now) (a .args .classes)
     (l .class) (l .end) _ (omega arith) refl in
     (a .pre .0, ((l .inv .0, (omega arith, a .pre .1 .0)), omega arith))

@@ -27,8 +27,7 @@ slice-aggregate-put-line c =
 put-line-requires : tie.Need-put-line-requires
 put-line-requires c κs =
     let c3 = c .before .before .before in
-    let c5 = c3 .before .before in
-    let a = c5 in
+    let a = c3 .before .before in
     room-as _ _
     (left-line (a .args .class) (a .args .caught) (a .args .total) (a .args .first) _ _ (c3 .numbers-of .ensures) (c .before .letter-of .ensures))
     (a .pre)

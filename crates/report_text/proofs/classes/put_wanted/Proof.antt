@@ -10,7 +10,7 @@ use Rattle.report_text.proofs.ClassLaws.{verdict-text, not-wanted, is-w
 use borrow.Author.Needs.{needs}
 use Rattle.report_text.proofs.classes.put_wanted.Statement.{statement}
 use Rattle.report_text.proofs.classes.put_wanted.Tie as tie
-use Rattle.judge.proofs.sets.judge_class.Reads as judge-class-reads
+use Rattle.judge.proofs.checked.judge_class.Reads as judge-class-reads
 use Rattle.words.proofs.checked.value.Reads as value-reads
 
 sub-value : tie.Need-sub-value
@@ -33,8 +33,7 @@ judge-class-requires c κs = search needs
 put-verdict-requires : tie.Need-put-verdict-requires
 put-verdict-requires c κs =
     let c3 = c .before .before .before in
-    let c7 = c3 .before .before .before .before in
-    let a = c7 in
+    let a = c3 .before .before .before .before in
     let n = a .args .lines in
     let gs = gatesOf (a .args .gates .now) in
     let xs = a .args .vectors .now in

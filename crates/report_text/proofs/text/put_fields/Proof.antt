@@ -51,8 +51,7 @@ loop-less c = omega arith
 
 loop-again : tie.Need-loop-again Inv-loop μ-loop
 loop-again c =
-    let c6 = c .before .before .before .before .before .before in
-    let l = c6 in
+    let l = c .before .before .before .before .before .before in
     let a = l .before .before .before .args in
     let put = c .before .before .put-decimal in
     let h : l .loop .i < length (a .numbers .now) = omega arith in (

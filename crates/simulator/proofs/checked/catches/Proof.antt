@@ -73,18 +73,21 @@ catches-control-requires c κs =
 
 returns-3 : tie.Need-returns-3
 returns-3 c =
-    let a = c .before .before .before .before .before .before .before .before .args in
-    let ok = c .before .before .before .before .before .before .before .before .pre .0 in
-    let w = names-gate (a .lines) (a .gates .now) (a .fault) (c .before .before .before .before .before .before .before .before .pre .0)
-    (c .before .before .before .before .before .before .before .before .pre .1) (c .before .before .before .before .before .before .if1 .left) in
-    let number : c .before .before .before .before .before .gate .result .0 ≡ a .fault .place = c .before .before .before .before .before .gate .ensures in
+    let c5 = c .before .before .before .before .before in
+    let c6 = c5 .before in
+    let c8 = c6 .before .before in
+    let a = c8 .args in
+    let ok = c8 .pre .0 in
+    let w = names-gate (a .lines) (a .gates .now) (a .fault) (c8 .pre .0)
+    (c8 .pre .1) (c6 .if1 .left) in
+    let number : c5 .gate .result .0 ≡ a .fault .place = c5 .gate .ensures in
     let made : c .before .less-control .result ≡ lessControl (a .fault .line) (gateAt (gatesOf (a .gates .now)) (a .fault .place)) = cc in
     c .catches-control .ensures
     ∙ rw (number, made)
     (sym (missing-control-caught (a .lines) (gatesOf (a .gates .now)) (ok .gates-ok) (a .fault) (w .0) (w .1) (a .vector)
     (c .before .before .if3 .taken)
-    (is-missing (a .lines) (a .gates .now) (a .fault) (c .before .before .before .before .before .before .before .before .pre .0)
-    (c .before .before .before .before .before .before .before .before .pre .1) (c .before .before .if3 .taken))))
+    (is-missing (a .lines) (a .gates .now) (a .fault) (c8 .pre .0)
+    (c8 .pre .1) (c .before .before .if3 .taken))))
 
 catches-control-requires-2 : tie.Need-catches-control-requires-2
 catches-control-requires-2 c κs =

@@ -1,4 +1,5 @@
--- `simulator::checked::catches_stuck_at` meets its contract: the good value of the line is compared with the one that it is stuck at. Assumes nothing.
+-- `simulator::checked::catches_stuck_at` meets its contract: the good value of the line is compared with the one that it is stuck at. Assumes
+-- nothing.
 use borrow.Author.Needs.{needs}
 use Rattle.simulator.proofs.checked.catches_stuck_at.Statement.{statement}
 use Rattle.simulator.proofs.checked.catches_stuck_at.Tie as tie

@@ -1,4 +1,5 @@
--- `simulator::checked::faulty_run` meets its contract: each class leaves the circuit at one level in another state, and the rest of the circuit goes on from there.
+-- `simulator::checked::faulty_run` meets its contract: each class leaves the circuit at one level in another state, and the rest of the
+-- circuit goes on from there.
 -- Assumes nothing.
 use mathlib.Core.Path.{_≡_, sym, _∙_}
 use native.Mathlib.Omega.{arith}
@@ -82,10 +83,13 @@ run-changed-requires c κs =
 
 returns-3 : tie.Need-returns-3
 returns-3 c =
-    let a = c .before .before .before .before .before .before .before .before .args in
-    let w = names-gate (a .lines) (a .gates .now) (a .fault) (c .before .before .before .before .before .before .before .before .pre .0)
-    (c .before .before .before .before .before .before .before .before .pre .1) (c .before .before .before .before .before .before .if1 .left) in
-    let number : c .before .before .before .before .before .gate .result .0 ≡ a .fault .place = c .before .before .before .before .before .gate .ensures in
+    let c5 = c .before .before .before .before .before in
+    let c6 = c5 .before in
+    let c8 = c6 .before .before in
+    let a = c8 .args in
+    let w = names-gate (a .lines) (a .gates .now) (a .fault) (c8 .pre .0)
+    (c8 .pre .1) (c6 .if1 .left) in
+    let number : c5 .gate .result .0 ≡ a .fault .place = c5 .gate .ensures in
     let made : c .before .less-control .result ≡ lessControl (a .fault .line) (gateAt (gatesOf (a .gates .now)) (a .fault .place)) = cc in
     c .run-changed .ensures
     ∙ rw (number, made)
@@ -118,16 +122,20 @@ run-changed-requires-2 c κs =
 
 returns-4 : tie.Need-returns-4
 returns-4 c =
-    let a = c .before .before .before .before .before .before .before .before .args in
-    let w = names-gate (a .lines) (a .gates .now) (a .fault) (c .before .before .before .before .before .before .before .before .pre .0)
-    (c .before .before .before .before .before .before .before .before .pre .1) (c .before .before .before .before .before .before .if1 .left) in
-    let number : c .before .before .before .before .before .gate .result .0 ≡ a .fault .place = c .before .before .before .before .before .gate .ensures in
+    let c4 = c .before .before .before .before in
+    let c5 = c4 .before in
+    let c6 = c5 .before in
+    let c8 = c6 .before .before in
+    let a = c8 .args in
+    let w = names-gate (a .lines) (a .gates .now) (a .fault) (c8 .pre .0)
+    (c8 .pre .1) (c6 .if1 .left) in
+    let number : c5 .gate .result .0 ≡ a .fault .place = c5 .gate .ensures in
     let made : c .before .more-control .result ≡ moreControl (a .fault .line) (gateAt (gatesOf (a .gates .now)) (a .fault .place)) = cc in
     c .run-changed2 .ensures
     ∙ rw (number, made)
     (sym (faulty-extra-control (gatesOf (a .gates .now)) (a .fault) (a .vector)
-    (class-last (a .lines) (gatesOf (a .gates .now)) (a .fault) (c .before .before .before .before .before .before .before .before .pre .1)
-    (c .before .before .before .before .before .before .if1 .left) (c .before .before .before .before .if2 .left) (c .before .before .if3 .left))
+    (class-last (a .lines) (gatesOf (a .gates .now)) (a .fault) (c8 .pre .1)
+    (c6 .if1 .left) (c4 .if2 .left) (c .before .before .if3 .left))
     ∙ run-changed (moreControl (a .fault .line)) (gatesOf (a .gates .now)) (a .fault .place) (a .vector) (w .0) (w .1)))
 
 pub faulty-run-spec : {M : Type 1} → statement M

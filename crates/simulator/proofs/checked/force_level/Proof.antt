@@ -1,4 +1,5 @@
--- `simulator::checked::force_level` meets its contract: each turn forces what one entry asks, and the entries that are left ask the rest. Assumes nothing.
+-- `simulator::checked::force_level` meets its contract: each turn forces what one entry asks, and the entries that are left ask the rest.
+-- Assumes nothing.
 use borrow.Author.Needs.{needs}
 use Prim.Native.Nat.{_+_, _-_}
 use mathlib.Core.Path.{_≡_, refl, ap, sym, _∙_}

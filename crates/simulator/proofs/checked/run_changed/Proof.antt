@@ -23,7 +23,9 @@ run-rest-requires c κs = search needs
 
 returns : tie.Need-returns
 returns c =
-    let read : c .before .before .before .before .level-read .result .0 ≡ c .before .before .before .before .before .before .args .gate .0 - 1 = omega arith in
+    let c4 = c .before .before .before .before in
+    let c6 = c4 .before .before in
+    let read : c4 .level-read .result .0 ≡ c6 .args .gate .0 - 1 = omega arith in
     cc
 
 pub run-changed-spec : {M : Type 1} → statement M

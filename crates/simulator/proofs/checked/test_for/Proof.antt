@@ -1,4 +1,5 @@
--- `simulator::checked::test_for` meets its contract: the state is run back from the level of the fault, or from the one that its gate reads. Assumes nothing.
+-- `simulator::checked::test_for` meets its contract: the state is run back from the level of the fault, or from the one that its gate reads.
+-- Assumes nothing.
 use Prim.Native.Nat.{_-_}
 use mathlib.Core.Path.{_≡_, sym, _∙_}
 use native.Mathlib.Omega.{arith}

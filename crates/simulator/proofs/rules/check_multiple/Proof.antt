@@ -1,4 +1,5 @@
--- `simulator::rules::check_multiple` meets its contract: the rules of the circuit and the vector come first, then those of the entries. Assumes nothing.
+-- `simulator::rules::check_multiple` meets its contract: the rules of the circuit and the vector come first, then those of the entries.
+-- Assumes nothing.
 use mathlib.Core.Path.{ap, sym, _∙_}
 use mathlib.Core.List.{_++_}
 use Rattle.refusals.specs.Checks.{fine, found}

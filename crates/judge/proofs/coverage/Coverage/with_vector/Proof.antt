@@ -1,4 +1,5 @@
--- `judge::coverage::Coverage::with_vector` meets its contract: a refusal hands the coverage back, and any other vector adds its marks. Assumes nothing.
+-- `judge::coverage::Coverage::with_vector` meets its contract: a refusal hands the coverage back, and any other vector adds its marks. Assumes
+-- nothing.
 use mathlib.Core.Path.{ap, sym, _∙_}
 use mathlib.Core.List.{_++_}
 use borrow.Author.Tests.{ne-eqb}

@@ -1,11 +1,11 @@
--- `judge::sets::judge_levels` meets its contract: the words that its own marks make say what some vector catches. Assumes nothing.
+-- `judge::checked::judge_levels` meets its contract: the words that its own marks make say what some vector catches. Assumes nothing.
 use mathlib.Core.Path.{refl, _∙_}
 use Rattle.circuit.specs.Gates.{gatesOf}
 use Rattle.judge.proofs.ClassLists.{list-one}
 use Rattle.judge.proofs.SetLaws.{set-levels}
 use borrow.Author.Needs.{needs}
-use Rattle.judge.proofs.sets.judge_levels.Statement.{statement}
-use Rattle.judge.proofs.sets.judge_levels.Tie as tie
+use Rattle.judge.proofs.checked.judge_levels.Statement.{statement}
+use Rattle.judge.proofs.checked.judge_levels.Tie as tie
 
 mark-set-levels-requires : tie.Need-mark-set-levels-requires
 mark-set-levels-requires c κs = search needs

@@ -1,4 +1,4 @@
--- `judge::sets::mark_set_gates` meets its contract: each turn adds the marks of one vector, and those that are left add the rest. Assumes nothing.
+-- `judge::checked::mark_set_gates` meets its contract: each turn adds the marks of one vector, and those that are left add the rest. Assumes nothing.
 use Prim.Native.Nat.{_+_, _-_, _^_, _<_}
 use mathlib.Core.Path.{_≡_, refl, sym, ap, _∙_}
 use native.Mathlib.Omega.{arith}
@@ -7,8 +7,8 @@ use Rattle.basics.proofs.All.{all-at}
 use Rattle.circuit.specs.Gates.{gatesOf}
 use Rattle.judge.specs.Coverages.{markAll, gateMarks}
 use Rattle.judge.proofs.SetLaws.{mark-all-more, mark-all-end}
-use Rattle.judge.proofs.sets.mark_set_gates.Statement.{statement}
-use Rattle.judge.proofs.sets.mark_set_gates.Tie as tie
+use Rattle.judge.proofs.checked.mark_set_gates.Statement.{statement}
+use Rattle.judge.proofs.checked.mark_set_gates.Tie as tie
 
 abbrev Inv-loop : tie.InvT-loop
 Inv-loop class words₀ lines gates vectors i₀ words i =
@@ -33,7 +33,10 @@ mark-gates-requires c κs =
     let a = start .args in
     let gs = gatesOf (a .gates .now) in (
       start .pre .0,
-      (start .pre .1 .0, (start .pre .1 .1 .0, all-at (λ x. x < 2 ^ (a .lines)) (a .vectors .now) (l .loop .i) 0 (omega arith) (start .pre .1 .1 .1))),
+      (
+        start .pre .1 .0,
+        (start .pre .1 .1 .0, all-at (λ x. x < 2 ^ (a .lines)) (a .vectors .now) (l .loop .i) 0 (omega arith) (start .pre .1 .1 .1)),
+      ),
     )
 
 add-i : tie.Need-add-i Inv-loop μ-loop

@@ -1,11 +1,11 @@
--- `judge::sets::judge_class` meets its contract: class 1 goes by levels, the others by gates. Assumes nothing.
+-- `judge::checked::judge_class` meets its contract: class 1 goes by levels, the others by gates. Assumes nothing.
 use mathlib.Core.Path.{ap, sym, _∙_}
 use Rattle.circuit.specs.Gates.{gatesOf}
 use Rattle.judge.specs.Judging.{caughtBySome, verdict}
 use Rattle.judge.proofs.ClassLists.{list-one}
 use borrow.Author.Needs.{needs}
-use Rattle.judge.proofs.sets.judge_class.Statement.{statement}
-use Rattle.judge.proofs.sets.judge_class.Tie as tie
+use Rattle.judge.proofs.checked.judge_class.Statement.{statement}
+use Rattle.judge.proofs.checked.judge_class.Tie as tie
 
 judge-levels-requires : tie.Need-judge-levels-requires
 judge-levels-requires c κs = search needs

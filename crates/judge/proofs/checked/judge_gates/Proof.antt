@@ -1,9 +1,9 @@
--- `judge::sets::judge_gates` meets its contract: the words that its own marks make say what some vector catches. Assumes nothing.
+-- `judge::checked::judge_gates` meets its contract: the words that its own marks make say what some vector catches. Assumes nothing.
 use mathlib.Core.Path.{_∙_}
 use Rattle.judge.proofs.SetLaws.{set-gates}
 use borrow.Author.Needs.{needs}
-use Rattle.judge.proofs.sets.judge_gates.Statement.{statement}
-use Rattle.judge.proofs.sets.judge_gates.Tie as tie
+use Rattle.judge.proofs.checked.judge_gates.Statement.{statement}
+use Rattle.judge.proofs.checked.judge_gates.Tie as tie
 
 mark-set-gates-requires : tie.Need-mark-set-gates-requires
 mark-set-gates-requires c κs = search needs

@@ -1,4 +1,5 @@
--- `judge::sets::mark_set_levels` meets its contract: each turn adds the marks of one vector, and those that are left add the rest. Assumes nothing.
+-- `judge::checked::mark_set_levels` meets its contract: each turn adds the marks of one vector, and those that are left add the rest. Assumes
+-- nothing.
 use Prim.Native.Nat.{_+_, _-_, _^_, _<_}
 use mathlib.Core.Path.{_≡_, refl, sym, ap, _∙_}
 use native.Mathlib.Omega.{arith}
@@ -7,8 +8,8 @@ use Rattle.basics.proofs.All.{all-at}
 use Rattle.circuit.specs.Gates.{gatesOf}
 use Rattle.judge.specs.Coverages.{markAll, levelMarks}
 use Rattle.judge.proofs.SetLaws.{mark-all-more, mark-all-end}
-use Rattle.judge.proofs.sets.mark_set_levels.Statement.{statement}
-use Rattle.judge.proofs.sets.mark_set_levels.Tie as tie
+use Rattle.judge.proofs.checked.mark_set_levels.Statement.{statement}
+use Rattle.judge.proofs.checked.mark_set_levels.Tie as tie
 
 abbrev Inv-loop : tie.InvT-loop
 Inv-loop at-0₀ at-1₀ lines gates vectors i₀ at-0 at-1 i =
