@@ -1,0 +1,4 @@
+pub mod Uniqueness
+pub mod FirstBroken
+pub mod Demand1
+pub mod Demand2
