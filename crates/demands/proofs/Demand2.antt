@@ -1,7 +1,7 @@
 -- Demand 2: runs undo each other at every level; caught means that the final output differs, and each class has its condition
 -- for that; complete means that every fault of the class is caught by some vector, and a fault that is shown is the first that none catches.
-use Prim.Native.Nat.{ℕ, _+_, _-_, _*_, _≤_}
-use mathlib.Core.Path.{_≡_, refl, sym, ap, ap₂, _∙_}
+use Prim.Native.Nat.{ℕ, _+_, _-_, _≤_}
+use mathlib.Core.Path.{_≡_, sym, ap₂, subst, _∙_}
 use mathlib.Core.Logic.{_↔_, _≢_}
 use mathlib.Core.Bool.{true, false}
 use mathlib.Core.List.{List, [], _∷_, _++_, List·Memᴰ}
@@ -11,6 +11,8 @@ use Rattle.basics.specs.Lists.{All}
 use Rattle.basics.proofs.Tests.{not-eqb-iff}
 use Rattle.refusals.specs.Tables.{firstOf}
 use Rattle.refusals.specs.Tables.Told.{answered}
+use Rattle.refusals.specs.Checks.{fine}
+use Rattle.refusals.proofs.Tables.{fine-all}
 use Rattle.words.specs.Word.{bit}
 use Rattle.circuit.specs.Gates.{gatesOf, gateAt}
 use Rattle.circuit.specs.Controls.{isControl}
@@ -31,8 +33,12 @@ use Rattle.judge.specs.Classes.{classFaults}
 use Rattle.judge.specs.Judging.{caughtBySome, caughtOf, left, verdict}
 use Rattle.judge.specs.Rules.{judgeRows}
 use Rattle.judge.specs.Answers.{toldVerdict}
+use Rattle.judge.specs.Coverages.{emptyCoverage, withAll, isMarked}
+use Rattle.judge.specs.declared.Verdict.{Verdict}
 use Rattle.judge.specs.declared.Verdict.the-variants.{Complete, Left}
-use Rattle.judge.proofs.Theorems.{complete-means, shown-means, numbers-true}
+use Rattle.judge.proofs.AnswerLaws.{told-verdict-one}
+use Rattle.judge.proofs.ClassLists.{in-class-list}
+use Rattle.judge.proofs.Theorems.{coverage-is-judge, complete-means, shown-means, numbers-true}
 use Rattle.demands.proofs.FirstBroken.{answer-is}
 
 -- ---- runs
@@ -107,7 +113,7 @@ module _ (n : ℕ) (words xs : List ℕ) (class : ℕ) where
   abbrev TrueCounts : ℕ → ℕ → Type 0
   TrueCounts number total = (number ≡ length (caughtOf circuit xs faults)) × (total ≡ length faults)
 
-  -- complete, exactly if every fault of the class is caught by some vector
+  -- where it says complete, every fault of the class is caught by some vector
   pub says-complete : (number total : ℕ)
       → toldVerdict (Complete number total) ≡ firstOf (judgeRows n words xs class) (verdict (caughtBySome circuit xs) faults)
       → TrueCounts number total × All (λ f. (x : ℕ) × List·Memᴰ x xs × (caught circuit f x ≡ true)) faults
@@ -116,4 +122,47 @@ module _ (n : ℕ) (words xs : List ℕ) (class : ℕ) where
       let told = answer-is (judgeRows n words xs class) _ _ promise in
       let caught-number : number ≡ length (caughtOf circuit xs faults) = cc in
       let all-number : total ≡ length faults = cc in
-      ((caught-number, all-number), complete-means circuit xs faults .0 (sym told ∙ ap₂ (λ c t. answered (c ∷ t ∷ 1 ∷ 0 ∷ 0 ∷ 0 ∷ 0 ∷ [])) caught-number all-number))
+      let same = ap₂ (λ c t. answered (c ∷ t ∷ 1 ∷ 0 ∷ 0 ∷ 0 ∷ 0 ∷ [])) caught-number all-number in
+      ((caught-number, all-number), complete-means circuit xs faults .0 (sym told ∙ same))
+
+  -- and where no rule is broken and every fault of the class is caught by some vector, it does
+  pub caught-all-says-complete : (r : Verdict) → fine ≡ firstOf (judgeRows n words xs class) fine
+      → toldVerdict r ≡ firstOf (judgeRows n words xs class) (verdict (caughtBySome circuit xs) faults)
+      → All (λ f. (x : ℕ) × List·Memᴰ x xs × (caught circuit f x ≡ true)) faults
+      → r ≡ Complete (length (caughtOf circuit xs faults)) (length faults)
+  caught-all-says-complete r passes promise all =
+      told-verdict-one r (Complete (length (caughtOf circuit xs faults)) (length faults))
+      (promise ∙ sym (fine-all (judgeRows n words xs class) _ passes) ∙ complete-means circuit xs faults .1 all)
+
+  -- otherwise the fault shown is of the class, no vector catches it, and every earlier one is caught
+  abbrev FirstUncaught : Fault → Type 0
+  FirstUncaught f = List·Memᴰ f faults × (caughtBySome circuit xs f ≡ false)
+      × ((before : List Fault) × (later : List Fault) × (faults ≡ before ++ (f ∷ later)) × All (λ h. caughtBySome circuit xs h ≡ true) before)
+
+  pub says-left : (number total : ℕ) (f : Fault)
+      → toldVerdict (Left number total f) ≡ firstOf (judgeRows n words xs class) (verdict (caughtBySome circuit xs) faults)
+      → TrueCounts number total × FirstUncaught f
+  unfolding verdict caughtOf
+  says-left number total f promise =
+      let told = answer-is (judgeRows n words xs class) _ _ promise in
+      let caught-number : number ≡ length (caughtOf circuit xs faults) = cc in
+      let all-number : total ≡ length faults = cc in
+      let same = ap₂ (λ c t. answered (c ∷ t ∷ 0 ∷ f .class ∷ f .place ∷ f .line ∷ f .value ∷ [])) caught-number all-number in
+      let w = shown-means circuit xs faults (f .class) (f .place) (f .line) (f .value) (sym told ∙ same) in
+      let s = w .0 in
+      let is : s .fault ≡ f = λ i. record { class = s .class-is i; place = s .place-is i; line = s .line-is i; value = s .value-is i } in
+      ((caught-number, all-number), subst FirstUncaught is (w .1, w .2, w .3))
+
+  -- the number caught and the number left are all there are
+  pub none-uncounted : length (caughtOf circuit xs faults) + length (left circuit xs faults) ≡ length faults
+  none-uncounted = numbers-true circuit xs faults
+
+-- a class has every fault that the circuit has of it
+pub class-has-all : (n : ℕ) (gs : List Gate) (f : Fault) → AllOk n gs → isFault n gs f ≡ true → List·Memᴰ f (classFaults n gs (f .class))
+class-has-all = in-class-list
+
+-- a coverage that is begun empty and given a set's vectors in turn has the verdict of the judge of that set
+pub coverage-agrees : (n : ℕ) (words xs : List ℕ) (class : ℕ) → Sound n words → 1 ≤ class → class ≤ 4
+    → verdict (isMarked (withAll emptyCoverage n (gatesOf words) xs)) (classFaults n (gatesOf words) class)
+    ≡ verdict (caughtBySome (gatesOf words) xs) (classFaults n (gatesOf words) class)
+coverage-agrees = coverage-is-judge

@@ -2,3 +2,5 @@ pub mod Uniqueness
 pub mod FirstBroken
 pub mod Demand1
 pub mod Demand2
+pub mod Demand3
+pub mod WrongPrograms
