@@ -151,7 +151,7 @@ module _ (n : ℕ) (words xs : List ℕ) (class : ℕ) where
       let w = shown-means circuit xs faults (f .class) (f .place) (f .line) (f .value) (sym told ∙ same) in
       let s = w .0 in
       let is : s .fault ≡ f = λ i. record { class = s .class-is i; place = s .place-is i; line = s .line-is i; value = s .value-is i } in
-      ((caught-number, all-number), subst FirstUncaught is (w .1, w .2, w .3))
+      ((caught-number, all-number), subst FirstUncaught {x = s .fault} is (w .1, w .2, w .3))
 
   -- the number caught and the number left are all there are
   pub none-uncounted : length (caughtOf circuit xs faults) + length (left circuit xs faults) ≡ length faults
