@@ -1,7 +1,7 @@
 -- Demand 1: each call answers or refuses; it refuses with number k and place p exactly if rule k is the first broken one, in
 -- number order with 10 last, and p is its place; and a refusal leaves every lent byte, vector and record as it was.
 use Prim.Native.Nat.{ℕ}
-use mathlib.Core.Path.{_≡_, refl, ap, _∙_}
+use mathlib.Core.Path.{_≡_, refl}
 use mathlib.Core.Bool.{Bool, true, _&&_}
 use mathlib.Core.List.{List, [], _∷_, _++_}
 use lib.Dec.{eqb, ltb}
@@ -10,7 +10,7 @@ use denote.Ref.{now}
 use Rattle.basics.specs.Choice.{pick}
 use Rattle.refusals.specs.Tables.{Row, Told, after}
 use Rattle.refusals.specs.Tables.Row.{refuse_at_when_}
-use Rattle.refusals.specs.Tables.Told.{answered, refused}
+use Rattle.refusals.specs.Tables.Told.{refused}
 use Rattle.circuit.specs.Rules.{circuitSetRows, circuitRows, setRows, vectorRows, levelRows, runRows}
 use Rattle.circuit.specs.Answers.{told}
 use Rattle.circuit.proofs.forward.Reads as forward
@@ -43,7 +43,7 @@ use Rattle.job.proofs.write_job.Reads as write-job
 use Rattle.report_text.specs.Rules.{reportRows}
 use Rattle.report_text.specs.Answers.{toldReported}
 use Rattle.report_text.proofs.report.Reads as report
-use Rattle.demands.proofs.FirstBroken.{FirstBroken, Exactly, exactly, left}
+use Rattle.demands.proofs.FirstBroken.{Exactly, exactly, left}
 
 -- ---- number order, with 10 last
 

@@ -173,7 +173,8 @@ pub read-job-one : OneResultAndMemory read-job.Post
 read-job-one κs a b equal r s e f p q = (one toldRead told-read-one r s (p .0) cc, (same (p .1 .0) cc, same (p .1 .1) cc))
 
 pub write-job-one : OneResultAndMemory write-job.Post
-    (λ κs a b. (a .0 ≡ b .0) × (a .1 .0 ≡ b .1 .0) × (now (a .1 .1 .0) ≡ now (b .1 .1 .0)) × (now (a .1 .1 .1 .0) ≡ now (b .1 .1 .1 .0)) × (now (a .1 .1 .1 .1 .0) ≡ now (b .1 .1 .1 .1 .0)))
+    (λ κs a b. (a .0 ≡ b .0) × (a .1 .0 ≡ b .1 .0)
+    × (now (a .1 .1 .0) ≡ now (b .1 .1 .0)) × (now (a .1 .1 .1 .0) ≡ now (b .1 .1 .1 .0)) × (now (a .1 .1 .1 .1 .0) ≡ now (b .1 .1 .1 .1 .0)))
     (λ κs e f. now (e .1 .1 .1 .1 .0) ≡ now (f .1 .1 .1 .1 .0))
 write-job-one κs a b equal r s e f p q = (one toldWritten told-written-one r s (p .0) cc, same (p .1) cc)
 
