@@ -1,16 +1,9 @@
 -- Demand 1: each call answers or refuses; it refuses with number k and place p exactly if rule k is the first broken one, in
 -- number order with 10 last, and p is its place; and a refusal leaves every lent byte, vector and record as it was.
-use Prim.Native.Nat.{ℕ}
-use mathlib.Core.Path.{_≡_, refl}
-use mathlib.Core.Bool.{Bool, true, _&&_}
+use mathlib.Core.Path.{refl}
 use mathlib.Core.List.{List, [], _∷_, _++_}
-use lib.Dec.{eqb, ltb}
 use lib.ListN.{length}
 use denote.Ref.{now}
-use Rattle.basics.specs.Choice.{pick}
-use Rattle.refusals.specs.Tables.{Row, Told, after}
-use Rattle.refusals.specs.Tables.Row.{refuse_at_when_}
-use Rattle.refusals.specs.Tables.Told.{refused}
 use Rattle.circuit.specs.Rules.{circuitSetRows, circuitRows, setRows, vectorRows, levelRows, runRows}
 use Rattle.circuit.specs.Answers.{told}
 use Rattle.circuit.proofs.forward.Reads as forward
@@ -28,6 +21,7 @@ use Rattle.judge.specs.Answers.{toldVerdict, toldBeside}
 use Rattle.judge.proofs.judge.Reads as judge
 use Rattle.judge.proofs.coverage.Coverage.with_vector.Reads as coverage-with-vector
 use Rattle.judge.proofs.coverage.Coverage.count.Reads as coverage-count
+use Rattle.judge.proofs.covering.cover.Reads as cover
 use Rattle.dropping.specs.Rules.{recordRows, dropRows, dropRecordsRows}
 use Rattle.dropping.specs.Answers.{toldDropped}
 use Rattle.dropping.proofs.drop.Reads as drop
@@ -43,50 +37,8 @@ use Rattle.job.proofs.write_job.Reads as write-job
 use Rattle.report_text.specs.Rules.{reportRows}
 use Rattle.report_text.specs.Answers.{toldReported}
 use Rattle.report_text.proofs.report.Reads as report
-use Rattle.demands.proofs.FirstBroken.{Exactly, exactly, left}
-
--- ---- number order, with 10 last
-
-abbrev pub numbers : List Row → List ℕ
-numbers [] = []
-numbers (refuse number at place when broken ∷ rows) = number ∷ numbers rows
-
--- the turn of a rule: its number, and for 10 one that is above all
-abbrev pub turn : ℕ → ℕ
-turn number = pick (eqb number 10) 1000 number
-
-abbrev pub inOrder : List ℕ → Bool
-inOrder [] = true
-inOrder (k ∷ []) = true
-inOrder (k ∷ m ∷ rest) = ltb (turn k) (turn m) && inOrder (m ∷ rest)
-
--- ---- what demand 1 says of a call, by what its answer tells and its table of rules
-
-module _ {L : Type 0} {Inputs Result Exit : L → Type 0} (Post : (κs : L) → Inputs κs → Result κs → Exit κs → Type 0)
-    (telling : (κs : L) → Result κs → Told) (rows : (κs : L) → Inputs κs → List Row) where
-  pub record Refuses (ks : List ℕ) : Type 0 where
-    -- its rules have these numbers, which are in order
-    pub its-numbers : (κs : L) (a : Inputs κs) → numbers (rows κs a) ≡ ks
-    pub in-order : inOrder ks ≡ true
-    -- it refuses, and answers, exactly as they say
-    pub exact : (κs : L) (a : Inputs κs) (r : Result κs) (e : Exit κs) → Post κs a r e
-        → (values : List ℕ) × Exactly (telling κs r) (rows κs a) values
-
--- a refusal leaves lent memory as it was
-module _ {L : Type 0} {Inputs Result Exit : L → Type 0} {Post : (κs : L) → Inputs κs → Result κs → Exit κs → Type 0}
-    {telling : (κs : L) → Result κs → Told} {rows : (κs : L) → Inputs κs → List Row} {ks : List ℕ} where
-  pub record Leaves (call : Refuses Post telling rows ks) {M : Type 0} (before : (κs : L) → Inputs κs → M)
-      (memory : (κs : L) → Result κs → Exit κs → M) : Type 0 where
-    pub unchanged : (κs : L) (a : Inputs κs) (r : Result κs) (e : Exit κs) → Post κs a r e → (k p : ℕ) → telling κs r ≡ refused k p
-        → memory κs r e ≡ before κs a
-
-  pub refusal-leaves : {call : Refuses Post telling rows ks} {M : Type 0} {before : (κs : L) → Inputs κs → M}
-      {memory : (κs : L) → Result κs → Exit κs → M} (made : (κs : L) → Inputs κs → M)
-      → ((κs : L) (a : Inputs κs) (r : Result κs) (e : Exit κs) → Post κs a r e → memory κs r e ≡ after (rows κs a) (made κs a) (before κs a))
-      → Leaves call before memory
-  refusal-leaves {call = call} made holds = record {
-    unchanged = λ κs a r e p k q told. left (rows κs a) (made κs a) _ _ (holds κs a r e p) k q (call .exact κs a r e p .1 .refuses k q .0 told);
-  }
+use Rattle.demands.proofs.FirstBroken.{exactly}
+use Rattle.demands.proofs.Refusing.{Refuses, Leaves, refusal-leaves}
 
 -- ---- the calls, each with its table and the numbers of its rules in the order in which they are checked
 
@@ -150,6 +102,12 @@ pub coverage-count-refuses : Refuses coverage-count.Post (λ κs. toldVerdict)
     (3 ∷ 5 ∷ 7 ∷ 9 ∷ [])
 unfolding countRows classRows circuitSetRows circuitRows verdict
 coverage-count-refuses = record { its-numbers = λ κs a. refl; in-order = refl; exact = λ κs a r e p. (_, exactly _ _ _ p) }
+
+pub cover-refuses : Refuses cover.Post (λ κs. toldVerdict)
+    (λ κs a. judgeRows (a .0) (now (a .1 .0)) (now (a .1 .1 .0)) (a .1 .1 .1 .0))
+    (3 ∷ 5 ∷ 7 ∷ 8 ∷ 9 ∷ [])
+unfolding judgeRows setRows classRows circuitSetRows verdict
+cover-refuses = record { its-numbers = λ κs a. refl; in-order = refl; exact = λ κs a r e p. (_, exactly _ _ _ p) }
 
 -- dropping
 pub drop-refuses : Refuses drop.Post (λ κs. toldDropped)

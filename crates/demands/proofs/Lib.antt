@@ -1,5 +1,7 @@
 pub mod Uniqueness
+pub mod UniquenessOfC
 pub mod FirstBroken
+pub mod Refusing
 pub mod Demand1
 pub mod Demand2
 pub mod Demand3

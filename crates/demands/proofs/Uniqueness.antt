@@ -29,6 +29,7 @@ use Rattle.judge.proofs.judge.Reads as judge
 use Rattle.judge.proofs.coverage.Coverage.empty.Reads as coverage-empty
 use Rattle.judge.proofs.coverage.Coverage.with_vector.Reads as coverage-with-vector
 use Rattle.judge.proofs.coverage.Coverage.count.Reads as coverage-count
+use Rattle.judge.proofs.covering.cover.Reads as cover
 use Rattle.dropping.specs.Answers.{toldDropped}
 use Rattle.dropping.proofs.AnswerLaws.{told-dropped-one}
 use Rattle.dropping.proofs.drop.Reads as drop
@@ -143,6 +144,10 @@ coverage-with-vector-one κs a b equal r s e f p q =
 pub coverage-count-one : OneResult coverage-count.Post
     (λ κs a b. (a .0 ≡ b .0) × (a .1 .0 ≡ b .1 .0) × (now (a .1 .1 .0) ≡ now (b .1 .1 .0)) × (a .1 .1 .1 .0 ≡ b .1 .1 .1 .0))
 coverage-count-one κs a b equal r s e f p q = one toldVerdict told-verdict-one r s p cc
+
+pub cover-one : OneResult cover.Post
+    (λ κs a b. (a .0 ≡ b .0) × (now (a .1 .0) ≡ now (b .1 .0)) × (now (a .1 .1 .0) ≡ now (b .1 .1 .0)) × (a .1 .1 .1 .0 ≡ b .1 .1 .1 .0))
+cover-one κs a b equal r s e f p q = one toldVerdict told-verdict-one r s p cc
 
 -- dropping
 pub drop-one : OneResultAndMemory drop.Post
