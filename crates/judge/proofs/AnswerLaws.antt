@@ -1,10 +1,18 @@
--- Different verdicts tell different things.
+-- Different verdicts tell different things, and so do different refusals beside a coverage.
 use Prim.Native.Nat.{ℕ}
-use mathlib.Core.Path.{_≡_, ap}
+use mathlib.Core.Path.{_≡_, refl, sym, ap, _∙_}
+use mathlib.Core.Bool.{Bool, true, false, _&&_}
 use native.Mathlib.Omega.{arith}
+use lib.Dec.{eqb}
+use borrow.Author.Tests.{eqb-true}
+use Rattle.basics.specs.Choice.{pick}
+use Rattle.basics.proofs.Tests.{and-both}
+use Rattle.refusals.specs.Tables.Told.{refused}
+use Rattle.refusals.specs.Checks.{fine}
+use Rattle.refusals.specs.declared.Refusal.{Refusal}
 use Rattle.refusals.proofs.Tables.{told-refusal}
 use Rattle.simulator.specs.declared.Fault.{Fault}
-use Rattle.judge.specs.Answers.{toldVerdict}
+use Rattle.judge.specs.Answers.{toldVerdict, toldBeside}
 use Rattle.judge.specs.declared.Verdict.{Verdict}
 use Rattle.judge.specs.declared.Verdict.the-variants.{Complete, Left, Refused}
 
@@ -25,3 +33,20 @@ told-verdict-one (Left a b f) (Refused q) e = let z : _≡_ {A = ℕ} 0 1 = cc i
 told-verdict-one (Refused p) (Complete c d) e = let z : _≡_ {A = ℕ} 0 1 = cc in absurd (omega arith)
 told-verdict-one (Refused p) (Left c d h) e = let z : _≡_ {A = ℕ} 0 1 = cc in absurd (omega arith)
 told-verdict-one (Refused p) (Refused q) e = ap Refused (told-refusal p q e)
+
+-- ---- beside a coverage
+
+none-is : (r : Refusal) → eqb (r .number) 0 && eqb (r .place) 0 ≡ true → r ≡ record { number = 0; place = 0 }
+none-is r e =
+    let both = and-both (eqb (r .number) 0) (eqb (r .place) 0) e in
+    λ i. record { number = eqb-true (r .number) 0 (both .0) i; place = eqb-true (r .place) 0 (both .1) i }
+
+beside-one : (b c : Bool) (r s : Refusal) → (b ≡ true → c ≡ true → r ≡ s)
+    → pick b fine (refused (r .number) (r .place)) ≡ pick c fine (refused (s .number) (s .place)) → r ≡ s
+beside-one true true r s none e = none refl refl
+beside-one true false r s none e = let z : _≡_ {A = ℕ} 0 1 = cc in absurd (omega arith)
+beside-one false true r s none e = let z : _≡_ {A = ℕ} 0 1 = cc in absurd (omega arith)
+beside-one false false r s none e = told-refusal r s e
+
+pub told-beside-one : (r s : Refusal) → toldBeside r ≡ toldBeside s → r ≡ s
+told-beside-one r s e = beside-one _ _ r s (λ p q. none-is r p ∙ sym (none-is s q)) e

@@ -1,5 +1,6 @@
 -- What the answers of judging tell.
 use Prim.Native.Nat.{ℕ}
+use mathlib.Core.Bool.{_&&_}
 use mathlib.Core.List.{List, [], _∷_}
 use lib.Dec.{eqb}
 use Rattle.basics.specs.Choice.{pick}
@@ -23,6 +24,6 @@ abbrev pub toldFirst : First → List ℕ
 toldFirst first.None = 1 ∷ 0 ∷ 0 ∷ 0 ∷ 0 ∷ []
 toldFirst (first.Uncaught f) = 0 ∷ f .class ∷ f .place ∷ f .line ∷ f .value ∷ []
 
--- a refusal beside a coverage: number 0 is none
+-- a refusal beside a coverage: number 0 at place 0 is none
 abbrev pub toldBeside : Refusal → Told
-toldBeside r = pick (eqb (r .number) 0) fine (refused (r .number) (r .place))
+toldBeside r = pick (eqb (r .number) 0 && eqb (r .place) 0) fine (refused (r .number) (r .place))

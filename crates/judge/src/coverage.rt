@@ -29,7 +29,7 @@ pub struct Coverage {
     extra_controls: [u32; 1024],
 }
 
-// A coverage with one vector more, or the same beside the refusal; number 0 is none.
+// A coverage with one vector more, or the same beside the refusal; number 0 at place 0 is none.
 pub struct Covered {
     pub refusal: Refusal,
     pub coverage: Coverage,

@@ -1,0 +1,180 @@
+-- Demand 1: each call answers or refuses; it refuses with number k and place p exactly if rule k is the first broken one, in
+-- number order with 10 last, and p is its place; and a refusal leaves every lent byte, vector and record as it was.
+use mathlib.Core.Path.{refl}
+use mathlib.Core.List.{List, [], _∷_, _++_}
+use lib.ListN.{length}
+use denote.Ref.{now}
+use Rattle.circuit.specs.Rules.{circuitSetRows, circuitRows, setRows, vectorRows, levelRows, runRows}
+use Rattle.circuit.specs.Answers.{told}
+use Rattle.circuit.proofs.forward.Reads as forward
+use Rattle.circuit.proofs.backward.Reads as backward
+use Rattle.simulator.specs.Rules.{faultRows, catchRows, testRows}
+use Rattle.simulator.specs.Multiple.{entriesRows, multipleRows}
+use Rattle.simulator.specs.Answers.{toldCaught, toldMade}
+use Rattle.simulator.proofs.faulty_run.Reads as faulty-run
+use Rattle.simulator.proofs.catches.Reads as catches
+use Rattle.simulator.proofs.catches_multiple.Reads as catches-multiple
+use Rattle.simulator.proofs.test_for.Reads as test-for
+use Rattle.judge.specs.Rules.{classRows, judgeRows, countRows}
+use Rattle.judge.specs.Judging.{verdict}
+use Rattle.judge.specs.Answers.{toldVerdict, toldBeside}
+use Rattle.judge.proofs.judge.Reads as judge
+use Rattle.judge.proofs.coverage.Coverage.with_vector.Reads as coverage-with-vector
+use Rattle.judge.proofs.coverage.Coverage.count.Reads as coverage-count
+use Rattle.judge.proofs.covering.cover.Reads as cover
+use Rattle.dropping.specs.Rules.{recordRows, dropRows, dropRecordsRows}
+use Rattle.dropping.specs.Answers.{toldDropped}
+use Rattle.dropping.proofs.drop.Reads as drop
+use Rattle.dropping.proofs.Ported.drop_records.Reads as drop-records
+use Rattle.testsets.specs.Rules.{backwardRows, compactRows}
+use Rattle.testsets.specs.Answers as testsets
+use Rattle.testsets.proofs.backward_set.Reads as backward-set
+use Rattle.testsets.proofs.compact_set.Reads as compact-set
+use Rattle.job.specs.Rules.{readRows, writeRows}
+use Rattle.job.specs.Answers.{toldRead, toldWritten}
+use Rattle.job.proofs.read_job.Reads as read-job
+use Rattle.job.proofs.write_job.Reads as write-job
+use Rattle.report_text.specs.Rules.{reportRows}
+use Rattle.report_text.specs.Answers.{toldReported}
+use Rattle.report_text.proofs.report.Reads as report
+use Rattle.demands.proofs.FirstBroken.{exactly}
+use Rattle.demands.proofs.Refusing.{Refuses, Leaves, refusal-leaves}
+
+-- ---- the calls, each with its table and the numbers of its rules in the order in which they are checked
+
+-- circuit
+pub forward-refuses : Refuses forward.Post (λ κs. told)
+    (λ κs a. runRows (a .0) (now (a .1 .0)) (a .1 .1 .0) (a .1 .1 .1 .0))
+    (3 ∷ 5 ∷ 7 ∷ 8 ∷ 12 ∷ [])
+unfolding runRows levelRows circuitSetRows circuitRows vectorRows
+forward-refuses = record { its-numbers = λ κs a. refl; in-order = refl; exact = λ κs a r e p. (_, exactly _ _ _ p) }
+
+pub backward-refuses : Refuses backward.Post (λ κs. told)
+    (λ κs a. runRows (a .0) (now (a .1 .0)) (a .1 .1 .0) (a .1 .1 .1 .0))
+    (3 ∷ 5 ∷ 7 ∷ 8 ∷ 12 ∷ [])
+unfolding runRows levelRows circuitSetRows circuitRows vectorRows
+backward-refuses = record { its-numbers = λ κs a. refl; in-order = refl; exact = λ κs a r e p. (_, exactly _ _ _ p) }
+
+-- simulator
+pub faulty-run-refuses : Refuses faulty-run.Post (λ κs. told)
+    (λ κs a. catchRows (a .0) (now (a .1 .0)) (a .1 .1 .0) (a .1 .1 .1 .0))
+    (3 ∷ 5 ∷ 7 ∷ 8 ∷ 9 ∷ [])
+unfolding catchRows faultRows circuitSetRows circuitRows vectorRows
+faulty-run-refuses = record { its-numbers = λ κs a. refl; in-order = refl; exact = λ κs a r e p. (_, exactly _ _ _ p) }
+
+pub catches-refuses : Refuses catches.Post (λ κs. toldCaught)
+    (λ κs a. catchRows (a .0) (now (a .1 .0)) (a .1 .1 .0) (a .1 .1 .1 .0))
+    (3 ∷ 5 ∷ 7 ∷ 8 ∷ 9 ∷ [])
+unfolding catchRows faultRows circuitSetRows circuitRows vectorRows
+catches-refuses = record { its-numbers = λ κs a. refl; in-order = refl; exact = λ κs a r e p. (_, exactly _ _ _ p) }
+
+pub catches-multiple-refuses : Refuses catches-multiple.Post (λ κs. toldCaught)
+    (λ κs a. multipleRows (a .0) (now (a .1 .0)) (a .1 .1 .0) (now (a .1 .1 .1 .0)))
+    (3 ∷ 5 ∷ 7 ∷ 8 ∷ 9 ∷ 13 ∷ [])
+unfolding multipleRows entriesRows circuitSetRows circuitRows vectorRows
+catches-multiple-refuses = record { its-numbers = λ κs a. refl; in-order = refl; exact = λ κs a r e p. (_, exactly _ _ _ p) }
+
+pub test-for-refuses : Refuses test-for.Post (λ κs. toldMade)
+    (λ κs a. testRows (a .0) (now (a .1 .0)) (a .1 .1 .0))
+    (3 ∷ 5 ∷ 7 ∷ 9 ∷ [])
+unfolding testRows faultRows circuitSetRows circuitRows
+test-for-refuses = record { its-numbers = λ κs a. refl; in-order = refl; exact = λ κs a r e p. (_, exactly _ _ _ p) }
+
+-- judge
+pub judge-refuses : Refuses judge.Post (λ κs. toldVerdict)
+    (λ κs a. judgeRows (a .0) (now (a .1 .0)) (now (a .1 .1 .0)) (a .1 .1 .1 .0))
+    (3 ∷ 5 ∷ 7 ∷ 8 ∷ 9 ∷ [])
+unfolding judgeRows setRows classRows circuitSetRows verdict
+judge-refuses = record { its-numbers = λ κs a. refl; in-order = refl; exact = λ κs a r e p. (_, exactly _ _ _ p) }
+
+pub coverage-with-vector-refuses : Refuses coverage-with-vector.Post (λ κs r. toldBeside (r .refusal))
+    (λ κs a. circuitRows (a .1 .0) (now (a .1 .1 .0)) ++ vectorRows (a .1 .0) (a .1 .1 .1 .0))
+    (3 ∷ 5 ∷ 7 ∷ 8 ∷ [])
+unfolding circuitSetRows circuitRows vectorRows
+coverage-with-vector-refuses = record { its-numbers = λ κs a. refl; in-order = refl; exact = λ κs a r e p. (_, exactly _ _ _ (p .0)) }
+
+-- its refusal hands the same coverage back
+pub coverage-with-vector-leaves : Leaves coverage-with-vector-refuses (λ κs a. a .0) (λ κs r e. r .coverage)
+coverage-with-vector-leaves = refusal-leaves _ (λ κs a r e p. p .1)
+
+pub coverage-count-refuses : Refuses coverage-count.Post (λ κs. toldVerdict)
+    (λ κs a. countRows (a .1 .0) (now (a .1 .1 .0)) (a .1 .1 .1 .0))
+    (3 ∷ 5 ∷ 7 ∷ 9 ∷ [])
+unfolding countRows classRows circuitSetRows circuitRows verdict
+coverage-count-refuses = record { its-numbers = λ κs a. refl; in-order = refl; exact = λ κs a r e p. (_, exactly _ _ _ p) }
+
+pub cover-refuses : Refuses cover.Post (λ κs. toldVerdict)
+    (λ κs a. judgeRows (a .0) (now (a .1 .0)) (now (a .1 .1 .0)) (a .1 .1 .1 .0))
+    (3 ∷ 5 ∷ 7 ∷ 8 ∷ 9 ∷ [])
+unfolding judgeRows setRows classRows circuitSetRows verdict
+cover-refuses = record { its-numbers = λ κs a. refl; in-order = refl; exact = λ κs a r e p. (_, exactly _ _ _ p) }
+
+-- dropping
+pub drop-refuses : Refuses drop.Post (λ κs. toldDropped)
+    (λ κs a. dropRows (a .0) (now (a .1 .0)) (a .1 .1 .0) (now (a .1 .1 .1 .0)))
+    (3 ∷ 5 ∷ 7 ∷ 8 ∷ 9 ∷ [])
+unfolding dropRows recordRows circuitSetRows circuitRows vectorRows
+drop-refuses = record { its-numbers = λ κs a. refl; in-order = refl; exact = λ κs a r e p. (_, exactly _ _ _ (p .0)) }
+
+pub drop-leaves : Leaves drop-refuses (λ κs a. now (a .1 .1 .1 .0)) (λ κs r e. now (e .1 .1 .1 .0))
+drop-leaves = refusal-leaves _ (λ κs a r e p. p .1)
+
+pub drop-records-refuses : Refuses drop-records.Post (λ κs. toldDropped)
+    (λ κs a. dropRecordsRows (a .0) (now (a .1 .0)) (a .1 .1 .0) (now (a .1 .1 .1 .0)))
+    (3 ∷ 5 ∷ 7 ∷ 8 ∷ 9 ∷ [])
+unfolding dropRecordsRows recordRows circuitSetRows circuitRows vectorRows
+drop-records-refuses = record { its-numbers = λ κs a. refl; in-order = refl; exact = λ κs a r e p. (_, exactly _ _ _ (p .0)) }
+
+pub drop-records-leaves : Leaves drop-records-refuses (λ κs a. now (a .1 .1 .1 .0)) (λ κs r e. now (e .1 .1 .1 .0))
+drop-records-leaves = refusal-leaves _ (λ κs a r e p. p .1)
+
+-- testsets
+pub backward-set-refuses : Refuses backward-set.Post (λ κs. testsets.toldMade)
+    (λ κs a. backwardRows (a .0) (now (a .1 .0)) (length (now (a .1 .1 .0))))
+    (3 ∷ 5 ∷ 7 ∷ 10 ∷ [])
+unfolding backwardRows circuitSetRows circuitRows
+backward-set-refuses = record { its-numbers = λ κs a. refl; in-order = refl; exact = λ κs a r e p. (_, exactly _ _ _ (p .0)) }
+
+pub backward-set-leaves : Leaves backward-set-refuses (λ κs a. now (a .1 .1 .0)) (λ κs r e. now (e .1 .1 .0))
+backward-set-leaves = refusal-leaves _ (λ κs a r e p. p .1)
+
+pub compact-set-refuses : Refuses compact-set.Post (λ κs. testsets.toldMade)
+    (λ κs a. compactRows (a .0) (now (a .1 .0)) (length (now (a .1 .1 .0))))
+    (3 ∷ 5 ∷ 7 ∷ 11 ∷ 10 ∷ [])
+unfolding compactRows circuitSetRows circuitRows
+compact-set-refuses = record { its-numbers = λ κs a. refl; in-order = refl; exact = λ κs a r e p. (_, exactly _ _ _ (p .0)) }
+
+pub compact-set-leaves : Leaves compact-set-refuses (λ κs a. now (a .1 .1 .0)) (λ κs r e. now (e .1 .1 .0))
+compact-set-leaves = refusal-leaves _ (λ κs a r e p. p .1)
+
+-- job
+pub read-job-refuses : Refuses read-job.Post (λ κs. toldRead)
+    (λ κs a. readRows (now (a .0)) (length (now (a .1 .0))) (length (now (a .1 .1 .0))))
+    (1 ∷ 2 ∷ 3 ∷ 4 ∷ 5 ∷ 6 ∷ 7 ∷ 8 ∷ 10 ∷ [])
+unfolding readRows
+read-job-refuses = record { its-numbers = λ κs a. refl; in-order = refl; exact = λ κs a r e p. (_, exactly _ _ _ (p .0)) }
+
+pub read-job-leaves-gates : Leaves read-job-refuses (λ κs a. now (a .1 .0)) (λ κs r e. now (e .1 .0))
+read-job-leaves-gates = refusal-leaves _ (λ κs a r e p. p .1 .0)
+
+pub read-job-leaves-vectors : Leaves read-job-refuses (λ κs a. now (a .1 .1 .0)) (λ κs r e. now (e .1 .1 .0))
+read-job-leaves-vectors = refusal-leaves _ (λ κs a r e p. p .1 .1)
+
+pub write-job-refuses : Refuses write-job.Post (λ κs. toldWritten)
+    (λ κs a. writeRows (a .0) (a .1 .0) (now (a .1 .1 .0)) (now (a .1 .1 .1 .0)) (length (now (a .1 .1 .1 .1 .0))))
+    (3 ∷ 4 ∷ 5 ∷ 7 ∷ 8 ∷ 10 ∷ [])
+unfolding writeRows
+write-job-refuses = record { its-numbers = λ κs a. refl; in-order = refl; exact = λ κs a r e p. (_, exactly _ _ _ (p .0)) }
+
+pub write-job-leaves : Leaves write-job-refuses (λ κs a. now (a .1 .1 .1 .1 .0)) (λ κs r e. now (e .1 .1 .1 .1 .0))
+write-job-leaves = refusal-leaves _ (λ κs a r e p. p .1)
+
+-- report_text: any bytes have a text, so the one rule is its room
+pub report-refuses : Refuses report.Post (λ κs. toldReported)
+    (λ κs a. reportRows (now (a .0)) (length (now (a .1 .0))))
+    (10 ∷ [])
+unfolding reportRows
+report-refuses = record { its-numbers = λ κs a. refl; in-order = refl; exact = λ κs a r e p. (_, exactly _ _ _ (p .0)) }
+
+pub report-leaves : Leaves report-refuses (λ κs a. now (a .1 .0)) (λ κs r e. now (e .1 .0))
+report-leaves = refusal-leaves _ (λ κs a r e p. p .1)

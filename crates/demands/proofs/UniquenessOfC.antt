@@ -1,0 +1,172 @@
+-- The C calls: the contract of each allows one struct, and one final content of the memory that it was lent, for equal inputs.
+use mathlib.Core.Path.{_≡_}
+use mathlib.Core.List.{List, [], _∷_}
+use Prim.Native.Nat.{ℕ}
+use denote.Ref.{now}
+use Rattle.simulator.specs.declared.Fault.{Fault}
+use Rattle.nufsadeem.specs.declared.answers.Run.{Run}
+use Rattle.nufsadeem.specs.declared.answers.Catch.{Catch}
+use Rattle.nufsadeem.specs.declared.answers.Vector.{Vector}
+use Rattle.nufsadeem.specs.declared.answers.Count.{Count}
+use Rattle.nufsadeem.specs.declared.judging.Judgement.{Judgement}
+use Rattle.nufsadeem.specs.declared.jobs.Job.{Job}
+use Rattle.nufsadeem.proofs.nuf_forward.Reads as forward
+use Rattle.nufsadeem.proofs.nuf_backward.Reads as backward
+use Rattle.nufsadeem.proofs.nuf_catches.Reads as catches
+use Rattle.nufsadeem.proofs.nuf_catches_multiple.Reads as catches-multiple
+use Rattle.nufsadeem.proofs.nuf_test_for.Reads as test-for
+use Rattle.nufsadeem.proofs.nuf_backward_set.Reads as backward-set
+use Rattle.nufsadeem.proofs.nuf_compact_set.Reads as compact-set
+use Rattle.nufsadeem.proofs.nuf_drop.Reads as drop
+use Rattle.nufsadeem.proofs.Ported.nuf_drop_records.Reads as drop-records
+use Rattle.nufsadeem.proofs.judging.nuf_judge.Reads as judge
+use Rattle.nufsadeem.proofs.judging.nuf_cover.Reads as cover
+use Rattle.nufsadeem.proofs.jobs.nuf_read_job.Reads as read-job
+use Rattle.nufsadeem.proofs.jobs.nuf_write_job.Reads as write-job
+use Rattle.nufsadeem.proofs.jobs.nuf_report.Reads as report
+use Rattle.demands.proofs.Uniqueness.{same, one, OneResult, OneResultAndMemory}
+
+-- ---- structs whose fields are equal are equal
+
+abbrev runFields : Run → List ℕ
+runFields r = r .number ∷ r .place ∷ r .state ∷ []
+
+run-one : (r s : Run) → runFields r ≡ runFields s → r ≡ s
+run-one r s e =
+    let number : r .number ≡ s .number = cc in
+    let place : r .place ≡ s .place = cc in
+    let state : r .state ≡ s .state = cc in
+    λ i. record { number = number i; place = place i; state = state i }
+
+abbrev catchFields : Catch → List ℕ
+catchFields r = r .number ∷ r .place ∷ r .caught ∷ []
+
+catch-one : (r s : Catch) → catchFields r ≡ catchFields s → r ≡ s
+catch-one r s e =
+    let number : r .number ≡ s .number = cc in
+    let place : r .place ≡ s .place = cc in
+    let caught : r .caught ≡ s .caught = cc in
+    λ i. record { number = number i; place = place i; caught = caught i }
+
+abbrev vectorFields : Vector → List ℕ
+vectorFields r = r .number ∷ r .place ∷ r .vector ∷ []
+
+vector-one : (r s : Vector) → vectorFields r ≡ vectorFields s → r ≡ s
+vector-one r s e =
+    let number : r .number ≡ s .number = cc in
+    let place : r .place ≡ s .place = cc in
+    let vector : r .vector ≡ s .vector = cc in
+    λ i. record { number = number i; place = place i; vector = vector i }
+
+abbrev countFields : Count → List ℕ
+countFields r = r .number ∷ r .place ∷ r .count ∷ []
+
+count-one : (r s : Count) → countFields r ≡ countFields s → r ≡ s
+count-one r s e =
+    let number : r .number ≡ s .number = cc in
+    let place : r .place ≡ s .place = cc in
+    let count : r .count ≡ s .count = cc in
+    λ i. record { number = number i; place = place i; count = count i }
+
+abbrev jobFields : Job → List ℕ
+jobFields r = r .number ∷ r .place ∷ r .lines ∷ r .classes ∷ r .gates ∷ r .vectors ∷ []
+
+job-one : (r s : Job) → jobFields r ≡ jobFields s → r ≡ s
+job-one r s e =
+    let number : r .number ≡ s .number = cc in
+    let place : r .place ≡ s .place = cc in
+    let lines : r .lines ≡ s .lines = cc in
+    let classes : r .classes ≡ s .classes = cc in
+    let gates : r .gates ≡ s .gates = cc in
+    let vectors : r .vectors ≡ s .vectors = cc in
+    λ i. record { number = number i; place = place i; lines = lines i; classes = classes i; gates = gates i; vectors = vectors i }
+
+abbrev judgementFields : Judgement → List ℕ
+judgementFields r = r .number ∷ r .place ∷ r .caught ∷ r .total ∷ r .complete
+    ∷ r .first .class ∷ r .first .place ∷ r .first .line ∷ r .first .value ∷ []
+
+judgement-one : (r s : Judgement) → judgementFields r ≡ judgementFields s → r ≡ s
+judgement-one r s e =
+    let number : r .number ≡ s .number = cc in
+    let place : r .place ≡ s .place = cc in
+    let caught : r .caught ≡ s .caught = cc in
+    let total : r .total ≡ s .total = cc in
+    let complete : r .complete ≡ s .complete = cc in
+    let class : r .first .class ≡ s .first .class = cc in
+    let at : r .first .place ≡ s .first .place = cc in
+    let line : r .first .line ≡ s .first .line = cc in
+    let value : r .first .value ≡ s .first .value = cc in
+    λ i. record {
+      number = number i;
+      place = place i;
+      caught = caught i;
+      total = total i;
+      complete = complete i;
+      first = record { class = class i; place = at i; line = line i; value = value i };
+    }
+
+-- ---- the list of C calls
+
+pub forward-one : OneResult forward.Post
+    (λ κs a b. (a .0 ≡ b .0) × (now (a .1 .0) ≡ now (b .1 .0)) × (a .1 .1 .0 ≡ b .1 .1 .0) × (a .1 .1 .1 .0 ≡ b .1 .1 .1 .0))
+forward-one κs a b equal r s e f p q = one runFields run-one r s p cc
+
+pub backward-one : OneResult backward.Post
+    (λ κs a b. (a .0 ≡ b .0) × (now (a .1 .0) ≡ now (b .1 .0)) × (a .1 .1 .0 ≡ b .1 .1 .0) × (a .1 .1 .1 .0 ≡ b .1 .1 .1 .0))
+backward-one κs a b equal r s e f p q = one runFields run-one r s p cc
+
+pub catches-one : OneResult catches.Post
+    (λ κs a b. (a .0 ≡ b .0) × (now (a .1 .0) ≡ now (b .1 .0)) × (a .1 .1 .0 ≡ b .1 .1 .0) × (a .1 .1 .1 .0 ≡ b .1 .1 .1 .0))
+catches-one κs a b equal r s e f p q = one catchFields catch-one r s p cc
+
+pub catches-multiple-one : OneResult catches-multiple.Post
+    (λ κs a b. (a .0 ≡ b .0) × (now (a .1 .0) ≡ now (b .1 .0)) × (a .1 .1 .0 ≡ b .1 .1 .0) × (now (a .1 .1 .1 .0) ≡ now (b .1 .1 .1 .0)))
+catches-multiple-one κs a b equal r s e f p q = one catchFields catch-one r s p cc
+
+pub test-for-one : OneResult test-for.Post
+    (λ κs a b. (a .0 ≡ b .0) × (now (a .1 .0) ≡ now (b .1 .0)) × (a .1 .1 .0 ≡ b .1 .1 .0))
+test-for-one κs a b equal r s e f p q = one vectorFields vector-one r s p cc
+
+pub backward-set-one : OneResultAndMemory backward-set.Post
+    (λ κs a b. (a .0 ≡ b .0) × (now (a .1 .0) ≡ now (b .1 .0)) × (now (a .1 .1 .0) ≡ now (b .1 .1 .0)))
+    (λ κs e f. now (e .1 .1 .0) ≡ now (f .1 .1 .0))
+backward-set-one κs a b equal r s e f p q = (one countFields count-one r s (p .0) cc, same (p .1) cc)
+
+pub compact-set-one : OneResultAndMemory compact-set.Post
+    (λ κs a b. (a .0 ≡ b .0) × (now (a .1 .0) ≡ now (b .1 .0)) × (now (a .1 .1 .0) ≡ now (b .1 .1 .0)))
+    (λ κs e f. now (e .1 .1 .0) ≡ now (f .1 .1 .0))
+compact-set-one κs a b equal r s e f p q = (one countFields count-one r s (p .0) cc, same (p .1) cc)
+
+pub drop-one : OneResultAndMemory drop.Post
+    (λ κs a b. (a .0 ≡ b .0) × (now (a .1 .0) ≡ now (b .1 .0)) × (a .1 .1 .0 ≡ b .1 .1 .0) × (now (a .1 .1 .1 .0) ≡ now (b .1 .1 .1 .0)))
+    (λ κs e f. now (e .1 .1 .1 .0) ≡ now (f .1 .1 .1 .0))
+drop-one κs a b equal r s e f p q = (one countFields count-one r s (p .0) cc, same (p .1) cc)
+
+pub drop-records-one : OneResultAndMemory drop-records.Post
+    (λ κs a b. (a .0 ≡ b .0) × (now (a .1 .0) ≡ now (b .1 .0)) × (a .1 .1 .0 ≡ b .1 .1 .0) × (now (a .1 .1 .1 .0) ≡ now (b .1 .1 .1 .0)))
+    (λ κs e f. now (e .1 .1 .1 .0) ≡ now (f .1 .1 .1 .0))
+drop-records-one κs a b equal r s e f p q = (one countFields count-one r s (p .0) cc, same (p .1) cc)
+
+pub judge-one : OneResult judge.Post
+    (λ κs a b. (a .0 ≡ b .0) × (now (a .1 .0) ≡ now (b .1 .0)) × (now (a .1 .1 .0) ≡ now (b .1 .1 .0)) × (a .1 .1 .1 .0 ≡ b .1 .1 .1 .0))
+judge-one κs a b equal r s e f p q = one judgementFields judgement-one r s p cc
+
+pub cover-one : OneResult cover.Post
+    (λ κs a b. (a .0 ≡ b .0) × (now (a .1 .0) ≡ now (b .1 .0)) × (now (a .1 .1 .0) ≡ now (b .1 .1 .0)) × (a .1 .1 .1 .0 ≡ b .1 .1 .1 .0))
+cover-one κs a b equal r s e f p q = one judgementFields judgement-one r s p cc
+
+pub read-job-one : OneResultAndMemory read-job.Post
+    (λ κs a b. (now (a .0) ≡ now (b .0)) × (now (a .1 .0) ≡ now (b .1 .0)) × (now (a .1 .1 .0) ≡ now (b .1 .1 .0)))
+    (λ κs e f. (now (e .1 .0) ≡ now (f .1 .0)) × (now (e .1 .1 .0) ≡ now (f .1 .1 .0)))
+read-job-one κs a b equal r s e f p q = (one jobFields job-one r s (p .0) cc, (same (p .1 .0) cc, same (p .1 .1) cc))
+
+pub write-job-one : OneResultAndMemory write-job.Post
+    (λ κs a b. (a .0 ≡ b .0) × (a .1 .0 ≡ b .1 .0)
+    × (now (a .1 .1 .0) ≡ now (b .1 .1 .0)) × (now (a .1 .1 .1 .0) ≡ now (b .1 .1 .1 .0)) × (now (a .1 .1 .1 .1 .0) ≡ now (b .1 .1 .1 .1 .0)))
+    (λ κs e f. now (e .1 .1 .1 .1 .0) ≡ now (f .1 .1 .1 .1 .0))
+write-job-one κs a b equal r s e f p q = (one countFields count-one r s (p .0) cc, same (p .1) cc)
+
+pub report-one : OneResultAndMemory report.Post
+    (λ κs a b. (now (a .0) ≡ now (b .0)) × (now (a .1 .0) ≡ now (b .1 .0)))
+    (λ κs e f. now (e .1 .0) ≡ now (f .1 .0))
+report-one κs a b equal r s e f p q = (one countFields count-one r s (p .0) cc, same (p .1) cc)

@@ -1,0 +1,1 @@
+// The demands as theorems; no code.
