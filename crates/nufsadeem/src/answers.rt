@@ -2,6 +2,7 @@
 // refusal all others are.
 ghost use mathlib.Core.Path.{_≡_};
 ghost use mathlib.Core.List.{[], _∷_};
+ghost use Rattle.refusals.specs.Tables.Told.{answered, refused};
 ghost use Rattle.circuit.specs.Answers.{told};
 ghost use Rattle.simulator.specs.Answers as simulated;
 ghost use Rattle.simulator.specs.Answers.{toldCaught};
@@ -10,6 +11,7 @@ ghost use Rattle.testsets.specs.Answers as sets;
 ghost use Rattle.nufsadeem.specs.Fields.{fields};
 use circuit::Ran;
 use dropping::Dropped;
+use refusals::Refusal;
 use simulator::Caught;
 
 // A state.
@@ -103,21 +105,35 @@ pub fn vector_of(made: simulator::Made) -> Vector
     }
 }
 
+// So many.
+pub fn counted(count: u32) -> Count
+    ensures { λ r. ⌜ (r .number ∷ r .place ∷ r .count ∷ []) ≡ fields 1 (answered (count ∷ [])) ⌝ }
+{
+    Count {
+        number: 0,
+        place: 0,
+        count,
+    }
+}
+
+// None, and why.
+pub fn none_counted(refusal: Refusal) -> Count
+    ensures { λ r. ⌜ (r .number ∷ r .place ∷ r .count ∷ []) ≡ fields 1 (refused (refusal .number) (refusal .place)) ⌝ }
+{
+    Count {
+        number: refusal.number,
+        place: refusal.place,
+        count: 0,
+    }
+}
+
 // A set that was made.
 pub fn made_of(made: testsets::Made) -> Count
     ensures { λ r. ⌜ (r .number ∷ r .place ∷ r .count ∷ []) ≡ fields 1 (sets.toldMade made) ⌝ }
 {
     match made {
-        testsets::Made::Count(count) => Count {
-            number: 0,
-            place: 0,
-            count,
-        },
-        testsets::Made::Refused(refusal) => Count {
-            number: refusal.number,
-            place: refusal.place,
-            count: 0,
-        },
+        testsets::Made::Count(count) => counted(count),
+        testsets::Made::Refused(refusal) => none_counted(refusal),
     }
 }
 
@@ -126,15 +142,7 @@ pub fn left_of(dropped: Dropped) -> Count
     ensures { λ r. ⌜ (r .number ∷ r .place ∷ r .count ∷ []) ≡ fields 1 (toldDropped dropped) ⌝ }
 {
     match dropped {
-        Dropped::Left(count) => Count {
-            number: 0,
-            place: 0,
-            count,
-        },
-        Dropped::Refused(refusal) => Count {
-            number: refusal.number,
-            place: refusal.place,
-            count: 0,
-        },
+        Dropped::Left(count) => counted(count),
+        Dropped::Refused(refusal) => none_counted(refusal),
     }
 }

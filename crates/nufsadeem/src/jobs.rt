@@ -13,6 +13,8 @@ ghost use Rattle.report_text.specs.Rules.{reportRows};
 ghost use Rattle.report_text.specs.Answers.{toldReported};
 ghost use Rattle.nufsadeem.specs.Fields.{fields};
 use crate::answers::Count;
+use crate::answers::counted;
+use crate::answers::none_counted;
 use job::Read;
 use job::Written;
 use report_text::Reported;
@@ -62,16 +64,8 @@ pub fn bytes_of(written: Written) -> Count
     ensures { λ r. ⌜ (r .number ∷ r .place ∷ r .count ∷ []) ≡ fields 1 (toldWritten written) ⌝ }
 {
     match written {
-        Written::Bytes(count) => Count {
-            number: 0,
-            place: 0,
-            count,
-        },
-        Written::Refused(refusal) => Count {
-            number: refusal.number,
-            place: refusal.place,
-            count: 0,
-        },
+        Written::Bytes(count) => counted(count),
+        Written::Refused(refusal) => none_counted(refusal),
     }
 }
 
@@ -80,16 +74,8 @@ pub fn text_of(reported: Reported) -> Count
     ensures { λ r. ⌜ (r .number ∷ r .place ∷ r .count ∷ []) ≡ fields 1 (toldReported reported) ⌝ }
 {
     match reported {
-        Reported::Bytes(count) => Count {
-            number: 0,
-            place: 0,
-            count,
-        },
-        Reported::Refused(refusal) => Count {
-            number: refusal.number,
-            place: refusal.place,
-            count: 0,
-        },
+        Reported::Bytes(count) => counted(count),
+        Reported::Refused(refusal) => none_counted(refusal),
     }
 }
 
