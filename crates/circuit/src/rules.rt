@@ -1,6 +1,6 @@
 // The rules of a circuit, a state and a level: a check function for each table.
 ghost use mathlib.Core.Path.{_≡_};
-ghost use mathlib.Core.List.{[], _++_};
+ghost use mathlib.Core.List.{_++_};
 ghost use Prim.Native.Nat.{_≤_};
 ghost use Rattle.refusals.specs.Tables.{firstOf};
 ghost use Rattle.refusals.specs.Checks.{fine, found};

@@ -1,7 +1,7 @@
 -- Demand 1: each call answers or refuses; it refuses with number k and place p exactly if rule k is the first broken one, in
 -- number order with 10 last, and p is its place; and a refusal leaves every lent byte, vector and record as it was.
 use mathlib.Core.Path.{refl}
-use mathlib.Core.List.{List, [], _∷_, _++_}
+use mathlib.Core.List.{[], _∷_, _++_}
 use lib.ListN.{length}
 use denote.Ref.{now}
 use Rattle.circuit.specs.Rules.{circuitSetRows, circuitRows, setRows, vectorRows, levelRows, runRows}

@@ -3,7 +3,6 @@ use mathlib.Core.Path.{_≡_}
 use mathlib.Core.List.{List, [], _∷_}
 use Prim.Native.Nat.{ℕ}
 use denote.Ref.{now}
-use Rattle.simulator.specs.declared.Fault.{Fault}
 use Rattle.nufsadeem.specs.declared.answers.Run.{Run}
 use Rattle.nufsadeem.specs.declared.answers.Catch.{Catch}
 use Rattle.nufsadeem.specs.declared.answers.Vector.{Vector}

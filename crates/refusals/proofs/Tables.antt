@@ -7,7 +7,7 @@ use native.Mathlib.Omega.{arith}
 use Rattle.basics.specs.Choice.{pick}
 use Rattle.refusals.specs.Tables.{Row, Told, firstOf, after}
 use Rattle.refusals.specs.Tables.Row.{refuse_at_when_}
-use Rattle.refusals.specs.Tables.Told.{refused}
+use Rattle.refusals.specs.Tables.Told.{answered, refused}
 use Rattle.refusals.specs.Checks.{fine}
 use Rattle.refusals.specs.declared.Refusal.{Refusal}
 
@@ -58,6 +58,19 @@ fine-parts (refuse n at q when false ∷ rows) more e = fine-parts rows more e
 pub fine-row : (broken : Bool) (k p : ℕ) (rest : Told) → fine ≡ pick broken (refused k p) rest → (broken ≡ false) × (fine ≡ rest)
 fine-row true k p rest e = absurd (clash (sym e))
 fine-row false k p rest e = (refl, e)
+
+-- a call that answers breaks no rule and tells its own answer
+pub answered-fine : (rows : List Row) (values answer : List ℕ) → answered values ≡ firstOf rows (answered answer)
+    → (values ≡ answer) × (fine ≡ firstOf rows fine)
+answered-fine [] values answer e = (cc, refl)
+answered-fine (refuse k at p when true ∷ rows) values answer e = let z : _≡_ {A = ℕ} 0 1 = cc in absurd (omega arith)
+answered-fine (refuse k at p when false ∷ rows) values answer e = answered-fine rows values answer e
+
+-- a call that refuses breaks the rule that it tells
+pub refused-rows : (rows : List Row) (k p : ℕ) (answer : List ℕ) → refused k p ≡ firstOf rows (answered answer) → refused k p ≡ firstOf rows fine
+refused-rows [] k p answer e = let z : _≡_ {A = ℕ} 0 1 = cc in absurd (omega arith)
+refused-rows (refuse n at q when true ∷ rows) k p answer e = e
+refused-rows (refuse n at q when false ∷ rows) k p answer e = refused-rows rows k p answer e
 
 -- a refusal has the number of one of the rows, and none has number 0
 abbrev pub Numbered : List Row → Type 0

@@ -1,7 +1,7 @@
 -- Laws of the lines of the classes: a verdict's text is its class's line, and a class that is not wanted has none.
-use Prim.Native.Nat.{ℕ, zero, suc, _+_, _-_, _<_, _≤_}
+use Prim.Native.Nat.{ℕ, suc, _+_, _-_, _<_, _≤_}
 use mathlib.Core.Path.{_≡_, refl, ap, sym, _∙_}
-use mathlib.Core.Bool.{Bool, true, false, not}
+use mathlib.Core.Bool.{true, false}
 use mathlib.Core.List.{List, [], _∷_, _++_, append-assoc, append-nil}
 use native.Mathlib.Numerals.{add-one}
 use native.Mathlib.Omega.{arith}
@@ -9,11 +9,10 @@ use lib.ListN.{length, take, length-append}
 use lib.Seq.{sets}
 use lib.Dec.{eqb}
 use borrow.Author.Tests.{eq-eqb, ne-eqb}
-use Rattle.basics.specs.Choice.{pick}
 use Rattle.basics.specs.Lists.{upFrom, keep, each}
 use Rattle.basics.proofs.Tests.{by-test}
 use Rattle.words.specs.Word.{bit}
-use Rattle.refusals.specs.Tables.Told.{answered, refused}
+use Rattle.refusals.specs.Tables.Told.{answered}
 use Rattle.circuit.specs.declared.Gate.{Gate}
 use Rattle.simulator.specs.declared.Fault.{Fault}
 use Rattle.judge.specs.Classes.{classFaults}

@@ -2,25 +2,22 @@
 -- J 15 (lines of 2 digits, gates and vectors of 4), S 24 (numbers of 5 digits, a level of 4, a line of 2, a value of 1),
 -- M 17 (three numbers of 4), C and X 22 each (numbers of 5 digits, a gate of 4, a line of 2).
 use Prim.Native.Nat.{ℕ, zero, suc, _+_, _-_, _*_, _^_, _<_, _≤_}
-use mathlib.Core.Path.{_≡_, refl, ap, sym, _∙_}
-use mathlib.Core.Bool.{Bool, true, false, not}
+use mathlib.Core.Path.{_≡_, refl}
+use mathlib.Core.Bool.{not}
 use mathlib.Core.List.{List, [], _∷_, _++_}
 use native.Mathlib.Omega.{arith}
 use native.Mathlib.Nat.{le-trans, mul-le-mul, pow-le-pow-right}
 use lib.ListN.{length, length-append}
 use borrow.Author.Tests.{eq-eqb}
-use Rattle.basics.specs.Choice.{pick}
 use Rattle.basics.specs.Lists.{All, upFrom, keep, each}
 use Rattle.basics.proofs.Lists.{keep-le, all-keep}
 use Rattle.basics.proofs.Tests.{by-test}
-use Rattle.words.specs.Word.{bit}
 use Rattle.circuit.specs.Gates.{gatesOf}
 use Rattle.circuit.specs.Sound.{Sound, AllOk}
 use Rattle.circuit.specs.declared.Gate.{Gate}
-use Rattle.simulator.specs.Sites.{sites}
 use Rattle.simulator.specs.declared.Fault.{Fault}
 use Rattle.simulator.proofs.SiteLaws.{site-line}
-use Rattle.judge.specs.Classes.{faultOf, classFaults, stuckFaults, missingGates, missingControls, extraControls}
+use Rattle.judge.specs.Classes.{faultOf, classFaults, missingControls, extraControls}
 use Rattle.judge.specs.Judging.{caughtBySome, caughtOf, left}
 use Rattle.judge.proofs.ClassLists.{list-one, list-two, list-three, list-four}
 use Rattle.judge.proofs.ClassParts.{all-stuck, all-missing-gates, all-missing-controls, all-extra-controls}

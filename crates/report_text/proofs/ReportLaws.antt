@@ -1,7 +1,7 @@
 -- Laws of the whole report: its text in parts, and what bytes that are read say of it.
 use Prim.Native.Nat.{ℕ, _+_, _*_, _/_, _^_, _<_, _≤_}
 use mathlib.Core.Path.{_≡_, refl, ap, sym, _∙_}
-use mathlib.Core.Bool.{true, false}
+use mathlib.Core.Bool.{false}
 use mathlib.Core.List.{List, [], _∷_, _++_, append-nil}
 use native.Mathlib.Omega.{arith}
 use lib.ListN.{length, take, drop, replicate}
@@ -12,7 +12,7 @@ use Rattle.refusals.specs.Tables.{Row, Told, firstOf, after}
 use Rattle.refusals.specs.Tables.Row.{refuse_at_when_}
 use Rattle.refusals.specs.Tables.Told.{answered, refused}
 use Rattle.refusals.specs.Checks.{fine}
-use Rattle.refusals.proofs.Tables.{refused-on, fine-on, fine-parts, after-fine}
+use Rattle.refusals.proofs.Tables.{refused-on, fine-on, fine-parts, after-fine, answered-fine, refused-rows}
 use Rattle.circuit.specs.Gates.{gatesOf}
 use Rattle.circuit.specs.Rules.{circuitSetRows, setRows}
 use Rattle.circuit.specs.Sound.{Sound}
@@ -23,7 +23,7 @@ use Rattle.job.specs.Rules.{readRows}
 use Rattle.job.proofs.ByteLaws.{length-words, sets-append, sets-front}
 use Rattle.job.proofs.ImageLaws.{gates-front, vectors-front}
 use Rattle.job.specs.Parts.{badLines, badCounts, headerRows, contentRows, contentRowsIn, badRoom}
-use Rattle.job.proofs.RuleLaws.{ReadOk, read-ok, header-ok}
+use Rattle.job.proofs.RuleLaws.{read-ok, header-ok}
 use Rattle.report_text.specs.Text.{field, line}
 use Rattle.report_text.specs.Report.{classText, wanted, jobText, refusedText, textOf, reportText}
 use Rattle.report_text.specs.Rules.{reportRows}
@@ -55,19 +55,6 @@ job-put text n classes words xs end e =
     (each (classText n (gatesOf words) xs) (wanted classes)) (sym e)
 
 -- ---- what a reading tells
-
--- a call that answers breaks no rule and tells its own answer
-answered-fine : (rows : List Row) (values answer : List ℕ) → answered values ≡ firstOf rows (answered answer)
-    → (values ≡ answer) × (fine ≡ firstOf rows fine)
-answered-fine [] values answer e = (cc, refl)
-answered-fine (refuse k at p when true ∷ rows) values answer e = let z : _≡_ {A = ℕ} 0 1 = cc in absurd (omega arith)
-answered-fine (refuse k at p when false ∷ rows) values answer e = answered-fine rows values answer e
-
--- a call that refuses breaks the rule it tells
-refused-rows : (rows : List Row) (k p : ℕ) (answer : List ℕ) → refused k p ≡ firstOf rows (answered answer) → refused k p ≡ firstOf rows fine
-refused-rows [] k p answer e = let z : _≡_ {A = ℕ} 0 1 = cc in absurd (omega arith)
-refused-rows (refuse n at q when true ∷ rows) k p answer e = e
-refused-rows (refuse n at q when false ∷ rows) k p answer e = refused-rows rows k p answer e
 
 pub report-refused : (bytes : List ℕ) (k p gateRoom vectorRoom : ℕ) (answer : List ℕ) → gateRoom ≡ 3072 → vectorRoom ≡ 2048
     → refused k p ≡ firstOf (readRows bytes gateRoom vectorRoom) (answered answer) → refusedText k p ≡ reportText bytes

@@ -9,7 +9,6 @@ use Rattle.report_text.proofs.ReportLaws.{job-read, job-sound, job-text
 use borrow.Author.Needs.{needs}
 use Rattle.report_text.proofs.put_report.Statement.{statement}
 use Rattle.report_text.proofs.put_report.Tie as tie
-use Rattle.job.proofs.read_job.Reads as read-job-reads
 
 slice-aggregate-read-job : tie.Need-slice-aggregate-read-job
 slice-aggregate-read-job c = search needs

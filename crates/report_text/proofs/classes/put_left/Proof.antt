@@ -1,5 +1,5 @@
 -- `report_text::classes::put_left` meets its contract: what a class shows of a fault is the front of all its numbers. Assumes nothing.
-use mathlib.Core.Path.{ap, sym, _∙_}
+use mathlib.Core.Path.{sym}
 use mathlib.Core.List.{[], _∷_}
 use lib.Seq.{length-take-le}
 use Rattle.report_text.proofs.TextLaws.{room-as, put-as}

@@ -10,8 +10,6 @@ use Rattle.report_text.proofs.ClassLaws.{verdict-text, not-wanted, is-w
 use borrow.Author.Needs.{needs}
 use Rattle.report_text.proofs.classes.put_wanted.Statement.{statement}
 use Rattle.report_text.proofs.classes.put_wanted.Tie as tie
-use Rattle.judge.proofs.checked.judge_class.Reads as judge-class-reads
-use Rattle.words.proofs.checked.value.Reads as value-reads
 
 sub-value : tie.Need-sub-value
 sub-value c = search needs

@@ -5,7 +5,6 @@ use Prim.Native.Nat.{_-_}
 use borrow.Author.Needs.{needs}
 use Rattle.simulator.proofs.checked.catches_missing_gate.Statement.{statement}
 use Rattle.simulator.proofs.checked.catches_missing_gate.Tie as tie
-use Rattle.simulator.proofs.checked.catches_missing_gate.Reads as reads
 
 level-read-requires : tie.Need-level-read-requires
 level-read-requires c κs = search needs

@@ -9,7 +9,6 @@ use Rattle.simulator.proofs.TestLaws.{level-stuck, level-gate}
 use borrow.Author.Needs.{needs}
 use Rattle.simulator.proofs.checked.test_for.Statement.{statement}
 use Rattle.simulator.proofs.checked.test_for.Tie as tie
-use Rattle.simulator.proofs.checked.test_for.Reads as reads
 
 test-state-requires : tie.Need-test-state-requires
 test-state-requires c κs =
