@@ -18,5 +18,7 @@ use Rattle.bench.specs.Sample.{sampleWords, sample}
 use Rattle.bench.specs.Table.{levels, catching, judged, table, holds}
 
 pub bench-table : holds table ≡ true
-unfolding sampleWords sample levels catching judged table upFrom keep each some sumFrom bit flip force allOn allOnes linesOn inverse gatesOf lessControl moreControl fires step run forward backward forceAt stuckRun without changed faulty caught sites faultOf stuckFaults classFaults caughtBySome left verdict log2In log2 score bestOf best picks siteCount bound compactSet backwardInput backwardSet
+unfolding sampleWords sample levels catching judged table upFrom keep each some sumFrom bit flip force allOn allOnes linesOn inverse gatesOf
+    lessControl moreControl fires step run forward backward forceAt stuckRun without changed faulty caught sites faultOf stuckFaults
+    classFaults caughtBySome left verdict log2In log2 score bestOf best picks siteCount bound compactSet backwardInput backwardSet
 bench-table = refl

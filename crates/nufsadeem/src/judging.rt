@@ -22,6 +22,18 @@ pub struct Judgement {
     pub first: Fault,
 }
 
+// All fields 0.
+fn no_fault() -> Fault
+    ensures { λ r. ⌜ (r .class ∷ r .place ∷ r .line ∷ r .value ∷ []) ≡ 0 ∷ 0 ∷ 0 ∷ 0 ∷ [] ⌝ }
+{
+    Fault {
+        class: 0,
+        place: 0,
+        line: 0,
+        value: 0,
+    }
+}
+
 // A verdict.
 pub fn judgement_of(verdict: Verdict) -> Judgement
     ensures { λ r. ⌜ (r .number ∷ r .place ∷ r .caught ∷ r .total ∷ r .complete
@@ -34,12 +46,7 @@ pub fn judgement_of(verdict: Verdict) -> Judgement
             caught,
             total,
             complete: 1,
-            first: Fault {
-                class: 0,
-                place: 0,
-                line: 0,
-                value: 0,
-            },
+            first: no_fault(),
         },
         Verdict::Left {
             caught,
@@ -59,12 +66,7 @@ pub fn judgement_of(verdict: Verdict) -> Judgement
             caught: 0,
             total: 0,
             complete: 0,
-            first: Fault {
-                class: 0,
-                place: 0,
-                line: 0,
-                value: 0,
-            },
+            first: no_fault(),
         },
     }
 }
