@@ -15,7 +15,7 @@
  *
  * Rules, with the place that is told:
  *    1  fewer bytes than a job's header                                         0
- *    2  another version than 1                                                  0
+ *    2  a form that is not 1                                                    0
  *    3  no lines, or above 32                                                   0
  *    4  no class wanted, an unknown one, or a header word that is not 0         0
  *    5  above 1,024 gates or 2,048 vectors                                      0

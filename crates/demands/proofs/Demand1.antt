@@ -30,7 +30,7 @@ use Rattle.testsets.specs.Rules.{backwardRows, compactRows}
 use Rattle.testsets.specs.Answers as testsets
 use Rattle.testsets.proofs.backward_set.Reads as backward-set
 use Rattle.testsets.proofs.compact_set.Reads as compact-set
-use Rattle.job.specs.Rules.{readRows, writeRows}
+use Rattle.job.specs.Rules.{readRows, writeRows, headerRows, contentRows}
 use Rattle.job.specs.Answers.{toldRead, toldWritten}
 use Rattle.job.proofs.read_job.Reads as read-job
 use Rattle.job.proofs.write_job.Reads as write-job
@@ -151,7 +151,7 @@ compact-set-leaves = refusal-leaves _ (λ κs a r e p. p .1)
 pub read-job-refuses : Refuses read-job.Post (λ κs. toldRead)
     (λ κs a. readRows (now (a .0)) (length (now (a .1 .0))) (length (now (a .1 .1 .0))))
     (1 ∷ 2 ∷ 3 ∷ 4 ∷ 5 ∷ 6 ∷ 7 ∷ 8 ∷ 10 ∷ [])
-unfolding readRows
+unfolding readRows headerRows contentRows
 read-job-refuses = record { its-numbers = λ κs a. refl; in-order = refl; exact = λ κs a r e p. (_, exactly _ _ _ (p .0)) }
 
 pub read-job-leaves-gates : Leaves read-job-refuses (λ κs a. now (a .1 .0)) (λ κs r e. now (e .1 .0))
@@ -163,7 +163,7 @@ read-job-leaves-vectors = refusal-leaves _ (λ κs a r e p. p .1 .1)
 pub write-job-refuses : Refuses write-job.Post (λ κs. toldWritten)
     (λ κs a. writeRows (a .0) (a .1 .0) (now (a .1 .1 .0)) (now (a .1 .1 .1 .0)) (length (now (a .1 .1 .1 .1 .0))))
     (3 ∷ 4 ∷ 5 ∷ 7 ∷ 8 ∷ 10 ∷ [])
-unfolding writeRows
+unfolding writeRows contentRows
 write-job-refuses = record { its-numbers = λ κs a. refl; in-order = refl; exact = λ κs a r e p. (_, exactly _ _ _ (p .0)) }
 
 pub write-job-leaves : Leaves write-job-refuses (λ κs a. now (a .1 .1 .1 .1 .0)) (λ κs r e. now (e .1 .1 .1 .1 .0))

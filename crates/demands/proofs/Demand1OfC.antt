@@ -23,7 +23,7 @@ use Rattle.judge.specs.Rules.{classRows, judgeRows}
 use Rattle.judge.specs.Judging.{verdict}
 use Rattle.dropping.specs.Rules.{recordRows, dropRows, dropRecordsRows}
 use Rattle.testsets.specs.Rules.{backwardRows, compactRows}
-use Rattle.job.specs.Rules.{readRows, writeRows}
+use Rattle.job.specs.Rules.{readRows, writeRows, headerRows, contentRows}
 use Rattle.report_text.specs.Rules.{reportRows}
 use Rattle.nufsadeem.specs.Fields.{fields}
 use Rattle.nufsadeem.proofs.nuf_forward.Reads as forward
@@ -230,7 +230,7 @@ pub read-job-refuses : RefusesInC read-job.Post (λ κs r. r .number) (λ κs r.
     (λ κs r. r .lines ∷ r .classes ∷ r .gates ∷ r .vectors ∷ [])
     (λ κs a. readRows (now (a .0)) (length (now (a .1 .0))) (length (now (a .1 .1 .0))))
     (1 ∷ 2 ∷ 3 ∷ 4 ∷ 5 ∷ 6 ∷ 7 ∷ 8 ∷ 10 ∷ [])
-unfolding readRows
+unfolding readRows headerRows contentRows
 read-job-refuses = in-c 4 (λ κs a. refl) refl refl (λ κs a r e p. (_, p .0))
 
 pub read-job-leaves-gates : Leaves (read-job-refuses .refuses) (λ κs a. now (a .1 .0)) (λ κs r e. now (e .1 .0))
@@ -242,7 +242,7 @@ read-job-leaves-vectors = refusal-leaves _ (λ κs a r e p. p .1 .1)
 pub write-job-refuses : RefusesInC write-job.Post (λ κs r. r .number) (λ κs r. r .place) (λ κs r. r .count ∷ [])
     (λ κs a. writeRows (a .0) (a .1 .0) (now (a .1 .1 .0)) (now (a .1 .1 .1 .0)) (length (now (a .1 .1 .1 .1 .0))))
     (3 ∷ 4 ∷ 5 ∷ 7 ∷ 8 ∷ 10 ∷ [])
-unfolding writeRows
+unfolding writeRows contentRows
 write-job-refuses = in-c 1 (λ κs a. refl) refl refl (λ κs a r e p. (_, p .0))
 
 pub write-job-leaves : Leaves (write-job-refuses .refuses) (λ κs a. now (a .1 .1 .1 .1 .0)) (λ κs r e. now (e .1 .1 .1 .1 .0))

@@ -34,7 +34,7 @@ use Rattle.testsets.specs.Sets.{score, bestOf, best, picks, siteCount, bound, c
 use Rattle.testsets.specs.Rules.{compactRows}
 use Rattle.job.specs.Bytes.{numberAt, wordsAt}
 use Rattle.job.specs.Image.{linesIn, classesIn, gatesIn, vectorsIn, gateWords, vectorWords}
-use Rattle.job.specs.Rules.{badClasses, badSizes, readRows}
+use Rattle.job.specs.Rules.{badClasses, badSizes, readRows, headerRows, contentRows, badLines, badCounts}
 use Rattle.job.specs.Answers.{toldRead}
 use Rattle.job.specs.declared.Read.the-variants.{Refused}
 use Rattle.bench.specs.Sample.{sampleWords, sampleJob}
@@ -47,8 +47,8 @@ promisedRead = firstOf (readRows sampleJob 6 3)
     (answered (linesIn sampleJob ∷ classesIn sampleJob ∷ gatesIn sampleJob ∷ vectorsIn sampleJob ∷ []))
 
 read-is : promisedRead ≡ answered (3 ∷ 15 ∷ 2 ∷ 3 ∷ [])
-unfolding sampleJob readRows linesIn classesIn gatesIn vectorsIn gateWords vectorWords numberAt wordsAt badClasses badSizes firstBadGate
-    firstBadVector firstBadFrom badGate isControl bit gatesOf
+unfolding sampleJob readRows headerRows contentRows badLines badCounts linesIn classesIn gatesIn vectorsIn gateWords vectorWords
+    numberAt wordsAt badClasses badSizes firstBadGate firstBadVector firstBadFrom badGate isControl bit gatesOf
 read-is = refl
 
 -- the verdict on a set for the stuck-at faults of the sample circuit

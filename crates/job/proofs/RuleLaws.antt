@@ -18,9 +18,9 @@ use Rattle.refusals.proofs.Tables.{refused-on, fine-on, fine-row, fine-parts}
 use Rattle.circuit.specs.Rules.{firstBadGate, firstBadVector}
 use Rattle.job.specs.Bytes.{numberAt}
 use Rattle.job.specs.Image.{linesIn, classesIn, gatesIn, vectorsIn, gateWords, vectorWords, gateCount, image}
-use Rattle.job.specs.Rules.{badClasses, badSizes, readRows, writeRows}
+use Rattle.job.specs.Rules.{badClasses, badSizes, readRows, writeRows, badLines, badCounts, headerRows, contentRows}
 use Rattle.job.proofs.ImageLaws.{length-image}
-use Rattle.job.specs.Parts.{badLines, badCounts, headerRows, contentRows, contentRowsIn, badRoom, sooner}
+use Rattle.job.specs.Parts.{contentRowsIn, badRoom, sooner}
 
 -- ---- sizes: one law for each offset and the length that the header has, and one for the bytes that there are
 
@@ -176,7 +176,7 @@ roomRows bytes words vectors = refuse 10 at 0 when badRoom bytes words vectors �
 
 read-parts : (bytes : List ℕ) (words vectors : ℕ)
     → readRows bytes words vectors ≡ headerRows bytes ++ (contentRowsIn bytes ++ roomRows bytes words vectors)
-unfolding readRows headerRows contentRowsIn contentRows badLines badCounts badRoom
+unfolding readRows contentRowsIn badRoom
 read-parts bytes words vectors = refl
 
 pub read-header : (bytes : List ℕ) (words vectors k p : ℕ) → refused k p ≡ firstOf (headerRows bytes) fine
@@ -218,7 +218,7 @@ read-ok bytes words vectors e =
     }
 
 pub ok-read : (bytes : List ℕ) (words vectors : ℕ) → ReadOk bytes words vectors → fine ≡ firstOf (readRows bytes words vectors) fine
-unfolding readRows badClasses badSizes
+unfolding readRows headerRows contentRows badLines badClasses badCounts badSizes
 ok-read bytes words vectors ok =
     let h = ok .head in
     rw (
@@ -254,7 +254,7 @@ bytesRows n k words xs room = refuse 10 at 0 when ltb room (length (image n k wo
 
 write-parts : (n k : ℕ) (words xs : List ℕ) (room : ℕ)
     → writeRows n k words xs room ≡ settingRows n k words xs ++ (contentRows n words xs ++ bytesRows n k words xs room)
-unfolding writeRows contentRows badLines badCounts
+unfolding writeRows
 write-parts n k words xs room = refl
 
 module _ (n k : ℕ) (words xs : List ℕ) (room : ℕ) where

@@ -19,10 +19,10 @@ use Rattle.circuit.specs.Sound.{Sound}
 use Rattle.circuit.proofs.GateLaws.{gates-count}
 use Rattle.circuit.proofs.RuleLaws.{VectorsOk, vectors-ok, lines-right, sizes-right}
 use Rattle.job.specs.Image.{linesIn, classesIn, gatesIn, vectorsIn, gateWords, vectorWords}
-use Rattle.job.specs.Rules.{readRows}
+use Rattle.job.specs.Rules.{readRows, headerRows}
 use Rattle.job.proofs.ByteLaws.{length-words, sets-append, sets-front}
 use Rattle.job.proofs.ImageLaws.{gates-front, vectors-front}
-use Rattle.job.specs.Parts.{badLines, badCounts, headerRows, contentRows, contentRowsIn, badRoom}
+use Rattle.job.specs.Parts.{contentRowsIn, badRoom}
 use Rattle.job.proofs.RuleLaws.{read-ok, header-ok}
 use Rattle.report_text.specs.Text.{field, line}
 use Rattle.report_text.specs.Report.{classText, wanted, jobText, refusedText, textOf, reportText}
@@ -188,7 +188,7 @@ abbrev roomRows : List ℕ → List Row
 roomRows bytes = refuse 10 at 0 when badRoom bytes 3072 2048 ∷ []
 
 in-parts : (bytes : List ℕ) → readRows bytes 3072 2048 ≡ (headerRows bytes ++ contentRowsIn bytes) ++ roomRows bytes
-unfolding readRows headerRows contentRowsIn contentRows badLines badCounts badRoom
+unfolding readRows headerRows contentRowsIn badRoom
 in-parts bytes = refl
 
 room-fine : (bytes : List ℕ) → fine ≡ firstOf (headerRows bytes) fine → firstOf (roomRows bytes) fine ≡ fine

@@ -1,6 +1,6 @@
 -- `job::rules::bad_counts` meets its contract: two tests, either of which passes. Assumes nothing.
 use borrow.Author.Tests.{lt-ltb, le-ltb}
-use Rattle.job.specs.Parts.{badCounts}
+use Rattle.job.specs.Rules.{badCounts}
 use Rattle.job.proofs.rules.bad_counts.Statement.{statement}
 use Rattle.job.proofs.rules.bad_counts.Tie as tie
 

@@ -1,6 +1,6 @@
 -- `job::rules::bad_lines` meets its contract: two tests, either of which passes. Assumes nothing.
 use borrow.Author.Tests.{lt-ltb, le-ltb}
-use Rattle.job.specs.Parts.{badLines}
+use Rattle.job.specs.Rules.{badLines}
 use Rattle.job.proofs.rules.bad_lines.Statement.{statement}
 use Rattle.job.proofs.rules.bad_lines.Tie as tie
 

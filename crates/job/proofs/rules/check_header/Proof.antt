@@ -1,6 +1,6 @@
 -- `job::rules::check_header` meets its contract: its tests are the rows of the table, in their order. Assumes nothing.
 use mathlib.Core.Path.{ap, ap₂, sym, _∙_}
-use Rattle.job.specs.Parts.{badLines, badCounts}
+use Rattle.job.specs.Rules.{badLines, badCounts}
 use Rattle.job.proofs.RuleLaws.{header-short, header-form, header-lines, header-classes, header-counts, header-sizes}
 use borrow.Author.Needs.{needs}
 use Rattle.job.proofs.rules.check_header.Statement.{statement}
