@@ -16,6 +16,13 @@ pub struct Circuit<'a> {
     gates: &'a [u32],
 }
 
+/// One call about a circuit. A list is lent with its own length, which is all that a call asks of its caller.
+macro_rules! ask {
+    ($circuit:expr, $call:ident $(, $more:expr)*) => {
+        raw::$call($circuit.lines, $circuit.gates.as_ptr(), $circuit.gates.len() $(, $more)*)
+    };
+}
+
 impl<'a> Circuit<'a> {
     pub fn new(lines: u32, gates: &'a [u32]) -> Circuit<'a> {
         Circuit { lines, gates }
@@ -31,55 +38,30 @@ impl<'a> Circuit<'a> {
 
     /// The state at a level of the run that starts with `input`.
     pub fn forward(&self, level: u32, input: u32) -> Result<u32, Refusal> {
-        let run = unsafe {
-            raw::nuf_forward(
-                self.lines,
-                self.gates.as_ptr(),
-                self.gates.len(),
-                level,
-                input,
-            )
-        };
+        let run = unsafe { ask!(self, nuf_forward, level, input) };
         Refusal::or(run.number, run.place, run.state)
     }
 
     /// The input whose run has `state` at a level.
     pub fn backward(&self, level: u32, state: u32) -> Result<u32, Refusal> {
-        let run = unsafe {
-            raw::nuf_backward(
-                self.lines,
-                self.gates.as_ptr(),
-                self.gates.len(),
-                level,
-                state,
-            )
-        };
+        let run = unsafe { ask!(self, nuf_backward, level, state) };
         Refusal::or(run.number, run.place, run.state)
     }
 
     pub fn catches(&self, vector: u32, fault: Fault) -> Result<bool, Refusal> {
-        let catch = unsafe {
-            raw::nuf_catches(
-                self.lines,
-                self.gates.as_ptr(),
-                self.gates.len(),
-                vector,
-                fault,
-            )
-        };
+        let catch = unsafe { ask!(self, nuf_catches, vector, fault) };
         Refusal::or(catch.number, catch.place, catch.caught == 1)
     }
 
     /// Whether the output differs with all stuck-at faults there at once, four words each.
     pub fn catches_multiple(&self, vector: u32, entries: &[u32]) -> Result<bool, Refusal> {
         let catch = unsafe {
-            raw::nuf_catches_multiple(
-                self.lines,
-                self.gates.as_ptr(),
-                self.gates.len(),
+            ask!(
+                self,
+                nuf_catches_multiple,
                 vector,
                 entries.as_ptr(),
-                entries.len(),
+                entries.len()
             )
         };
         Refusal::or(catch.number, catch.place, catch.caught == 1)
@@ -88,13 +70,12 @@ impl<'a> Circuit<'a> {
     /// Judges a set for a class, given as a [`Class`](crate::Class) or as its code.
     pub fn judge(&self, vectors: &[u32], class: impl Into<u32>) -> Result<Verdict, Refusal> {
         Verdict::of(unsafe {
-            raw::nuf_judge(
-                self.lines,
-                self.gates.as_ptr(),
-                self.gates.len(),
+            ask!(
+                self,
+                nuf_judge,
                 vectors.as_ptr(),
                 vectors.len(),
-                class.into(),
+                class.into()
             )
         })
     }
@@ -102,21 +83,19 @@ impl<'a> Circuit<'a> {
     /// The same verdict by way of the coverage of all four classes, one vector after the other.
     pub fn cover(&self, vectors: &[u32], class: impl Into<u32>) -> Result<Verdict, Refusal> {
         Verdict::of(unsafe {
-            raw::nuf_cover(
-                self.lines,
-                self.gates.as_ptr(),
-                self.gates.len(),
+            ask!(
+                self,
+                nuf_cover,
                 vectors.as_ptr(),
                 vectors.len(),
-                class.into(),
+                class.into()
             )
         })
     }
 
     /// A vector that catches the fault.
     pub fn test_for(&self, fault: Fault) -> Result<u32, Refusal> {
-        let test =
-            unsafe { raw::nuf_test_for(self.lines, self.gates.as_ptr(), self.gates.len(), fault) };
+        let test = unsafe { ask!(self, nuf_test_for, fault) };
         Refusal::or(test.number, test.place, test.vector)
     }
 
@@ -130,15 +109,7 @@ impl<'a> Circuit<'a> {
 
     /// The backward set, written to the front of `room`; answers with its size.
     pub fn backward_set_into(&self, room: &mut [u32]) -> Result<usize, Refusal> {
-        count(unsafe {
-            raw::nuf_backward_set(
-                self.lines,
-                self.gates.as_ptr(),
-                self.gates.len(),
-                room.as_mut_ptr(),
-                room.len(),
-            )
-        })
+        count(unsafe { ask!(self, nuf_backward_set, room.as_mut_ptr(), room.len()) })
     }
 
     /// A small complete set for stuck-at faults, for at most 12 lines.
@@ -151,44 +122,26 @@ impl<'a> Circuit<'a> {
 
     /// The compact set, written to the front of `room`; answers with its size.
     pub fn compact_set_into(&self, room: &mut [u32]) -> Result<usize, Refusal> {
-        count(unsafe {
-            raw::nuf_compact_set(
-                self.lines,
-                self.gates.as_ptr(),
-                self.gates.len(),
-                room.as_mut_ptr(),
-                room.len(),
-            )
-        })
+        count(unsafe { ask!(self, nuf_compact_set, room.as_mut_ptr(), room.len()) })
     }
 
     /// Moves the faults that `vector` does not catch to the front, blanks the rest of the list and
     /// answers with how many stayed.
     pub fn drop_caught(&self, vector: u32, list: &mut [Fault]) -> Result<usize, Refusal> {
         count(unsafe {
-            raw::nuf_drop_records(
-                self.lines,
-                self.gates.as_ptr(),
-                self.gates.len(),
+            ask!(
+                self,
+                nuf_drop_records,
                 vector,
                 list.as_mut_ptr(),
-                list.len(),
+                list.len()
             )
         })
     }
 
     /// The same over a list of plain numbers, four a fault.
     pub fn drop_caught_words(&self, vector: u32, list: &mut [u32]) -> Result<usize, Refusal> {
-        count(unsafe {
-            raw::nuf_drop(
-                self.lines,
-                self.gates.as_ptr(),
-                self.gates.len(),
-                vector,
-                list.as_mut_ptr(),
-                list.len(),
-            )
-        })
+        count(unsafe { ask!(self, nuf_drop, vector, list.as_mut_ptr(), list.len()) })
     }
 }
 
