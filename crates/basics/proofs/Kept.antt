@@ -3,17 +3,17 @@ use Prim.Native.Nat.{ℕ, _+_, _≤_, _<_}
 use mathlib.Core.Path.{_≡_, refl, ap, ap₂, _∙_}
 use mathlib.Core.Bool.{Bool, true, false, false≢true}
 use mathlib.Core.List.{List, [], _∷_}
-use Rattle.basics.specs.Choice.{pick}
+use Rattle.basics.specs.Choice.{choice}
 use Rattle.basics.specs.Lists.{upFrom, keep, some, All}
-use Rattle.basics.proofs.Tests.{pick-true, or-neither}
+use Rattle.basics.proofs.Tests.{choice-true, or-neither}
 use Rattle.basics.proofs.Lists.{all-upFrom}
 
 module _ {ℓ} {A : Type ℓ} where
-  all-when : (P : A → Type 0) (b : Bool) (a : A) (ys : List A) → (b ≡ true → P a) → All P ys → All P (pick b (a ∷ ys) ys)
+  all-when : (P : A → Type 0) (b : Bool) (a : A) (ys : List A) → (b ≡ true → P a) → All P ys → All P (choice b (a ∷ ys) ys)
   all-when P true a ys h w = (h refl, w)
   all-when P false a ys h w = w
 
-  when-all : (P : A → Type 0) (b : Bool) (a : A) (ys : List A) → All P (pick b (a ∷ ys) ys) → (b ≡ true → P a) × All P ys
+  when-all : (P : A → Type 0) (b : Bool) (a : A) (ys : List A) → All P (choice b (a ∷ ys) ys) → (b ≡ true → P a) × All P ys
   when-all P true a ys w = (λ e. w .0, w .1)
   when-all P false a ys w = (λ e. absurd (false≢true e), w)
 
@@ -32,13 +32,13 @@ module _ {ℓ} {A : Type ℓ} where
   pub keep-every : (p : A → Bool) (ys : List A) → All (λ a. p a ≡ true) ys → keep p ys ≡ ys
   unfolding keep
   keep-every p [] w = refl
-  keep-every p (a ∷ ys) w = pick-true (w .0) (a ∷ keep p ys) (keep p ys) ∙ ap (λ zs. a ∷ zs) (keep-every p ys (w .1))
+  keep-every p (a ∷ ys) w = choice-true (w .0) (a ∷ keep p ys) (keep p ys) ∙ ap (λ zs. a ∷ zs) (keep-every p ys (w .1))
 
   -- tests that agree on every entry keep the same
   pub keep-agree : (p q : A → Bool) (ys : List A) → All (λ a. p a ≡ q a) ys → keep p ys ≡ keep q ys
   unfolding keep
   keep-agree p q [] w = refl
-  keep-agree p q (a ∷ ys) w = ap₂ (λ b zs. pick b (a ∷ zs) zs) (w .0) (keep-agree p q ys (w .1))
+  keep-agree p q (a ∷ ys) w = ap₂ (λ b zs. choice b (a ∷ zs) zs) (w .0) (keep-agree p q ys (w .1))
 
   -- where not some entry passes, every entry fails
   pub none-some : (p : A → Bool) (ys : List A) → some p ys ≡ false → All (λ a. p a ≡ false) ys

@@ -6,3 +6,4 @@ pub mod KeptCounts
 pub mod ListMore
 pub mod SumLaws
 pub mod Fills
+pub mod PutLaws

@@ -7,7 +7,7 @@ use native.Mathlib.Omega.{arith}
 use lib.ListN.{length, getD, drop}
 use lib.Dec.{eqb}
 use borrow.Author.Tests.{eq-eqb, ne-eqb}
-use Rattle.basics.specs.Choice.{pick, count}
+use Rattle.basics.specs.Choice.{choice, count}
 use Rattle.basics.specs.Lists.{upFrom, keep, each, some, All}
 use Rattle.basics.proofs.Tests.{by-test, by-equal, bool-ext}
 use Rattle.basics.proofs.All.{all-map}
@@ -23,16 +23,16 @@ or-assoc true b c = refl
 or-assoc false b c = refl
 
 module _ {ℓ} {A : Type ℓ} where
-  pick-append : (b : Bool) (a : A) (ys zs : List A) → pick b (a ∷ ys) ys ++ zs ≡ pick b (a ∷ (ys ++ zs)) (ys ++ zs)
-  pick-append true a ys zs = refl
-  pick-append false a ys zs = refl
+  choice-append : (b : Bool) (a : A) (ys zs : List A) → choice b (a ∷ ys) ys ++ zs ≡ choice b (a ∷ (ys ++ zs)) (ys ++ zs)
+  choice-append true a ys zs = refl
+  choice-append false a ys zs = refl
 
   -- ---- lists joined
 
   pub keep-append : (p : A → Bool) (ys zs : List A) → keep p (ys ++ zs) ≡ keep p ys ++ keep p zs
   unfolding keep
   keep-append p [] zs = refl
-  keep-append p (a ∷ ys) zs = ap (λ l. pick (p a) (a ∷ l) l) (keep-append p ys zs) ∙ sym (pick-append (p a) a (keep p ys) (keep p zs))
+  keep-append p (a ∷ ys) zs = ap (λ l. choice (p a) (a ∷ l) l) (keep-append p ys zs) ∙ sym (choice-append (p a) a (keep p ys) (keep p zs))
 
   pub some-append : (p : A → Bool) (ys zs : List A) → some p (ys ++ zs) ≡ (some p ys || some p zs)
   unfolding some

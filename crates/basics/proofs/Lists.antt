@@ -8,9 +8,9 @@ use native.Mathlib.Numerals.{add-one}
 use native.Mathlib.Omega.{arith}
 use lib.ListN.{length, getD, drop, length-append, length-map, drop-of-length-le}
 use lib.Seq.{drop-cons}
-use Rattle.basics.specs.Choice.{pick, count}
+use Rattle.basics.specs.Choice.{choice, count}
 use Rattle.basics.specs.Lists.{upFrom, keep, each, some, All}
-use Rattle.basics.proofs.Tests.{pick-false, by-test, by-equal, or-right}
+use Rattle.basics.proofs.Tests.{choice-false, by-test, by-equal, or-right}
 use Rattle.basics.proofs.All.{all-append, all-front, all-back}
 
 count-not : (b : Bool) → count b + count (not b) ≡ 1
@@ -20,13 +20,13 @@ count-not false = refl
 -- ---- keep
 
 module _ {ℓ} {A : Type ℓ} where
-  length-pick : (b : Bool) (a : A) (ys : List A) → length (pick b (a ∷ ys) ys) ≡ count b + length ys
-  length-pick true a ys = omega arith
-  length-pick false a ys = omega arith
+  length-choice : (b : Bool) (a : A) (ys : List A) → length (choice b (a ∷ ys) ys) ≡ count b + length ys
+  length-choice true a ys = omega arith
+  length-choice false a ys = omega arith
 
   pub length-keep : (p : A → Bool) (a : A) (ys : List A) → length (keep p (a ∷ ys)) ≡ count (p a) + length (keep p ys)
   unfolding keep
-  length-keep p a ys = length-pick (p a) a (keep p ys)
+  length-keep p a ys = length-choice (p a) a (keep p ys)
 
   -- what is kept and what is not are all
   pub keep-parts : (p : A → Bool) (ys : List A) → length (keep p ys) + length (keep (λ a. not (p a)) ys) ≡ length ys
@@ -40,40 +40,40 @@ module _ {ℓ} {A : Type ℓ} where
   pub keep-cong : {p q : A → Bool} → ((a : A) → p a ≡ q a) → (ys : List A) → keep p ys ≡ keep q ys
   keep-cong h ys = ap (λ p. keep p ys) (fun-ext h)
 
-  keep-pick : (b : Bool) (q : A → Bool) (a : A) (ys zs : List A) → keep q ys ≡ zs → keep q (pick b (a ∷ ys) ys) ≡ pick (b && q a) (a ∷ zs) zs
+  keep-choice : (b : Bool) (q : A → Bool) (a : A) (ys zs : List A) → keep q ys ≡ zs → keep q (choice b (a ∷ ys) ys) ≡ choice (b && q a) (a ∷ zs) zs
   unfolding keep
-  keep-pick true q a ys zs e = ap (λ l. pick (q a) (a ∷ l) l) e
-  keep-pick false q a ys zs e = e
+  keep-choice true q a ys zs e = ap (λ l. choice (q a) (a ∷ l) l) e
+  keep-choice false q a ys zs e = e
 
   -- kept twice
   pub keep-keep : (p q : A → Bool) (ys : List A) → keep q (keep p ys) ≡ keep (λ a. p a && q a) ys
   unfolding keep
   keep-keep p q [] = refl
-  keep-keep p q (a ∷ ys) = keep-pick (p a) q a (keep p ys) (keep (λ y. p y && q y) ys) (keep-keep p q ys)
+  keep-keep p q (a ∷ ys) = keep-choice (p a) q a (keep p ys) (keep (λ y. p y && q y) ys) (keep-keep p q ys)
 
-  all-pick : (P : A → Type 0) (b : Bool) (a : A) (ys : List A) → P a → All P ys → All P (pick b (a ∷ ys) ys)
-  all-pick P true a ys h w = (h, w)
-  all-pick P false a ys h w = w
+  all-choice : (P : A → Type 0) (b : Bool) (a : A) (ys : List A) → P a → All P ys → All P (choice b (a ∷ ys) ys)
+  all-choice P true a ys h w = (h, w)
+  all-choice P false a ys h w = w
 
   pub all-keep : (P : A → Type 0) (p : A → Bool) (ys : List A) → All P ys → All P (keep p ys)
   unfolding keep
   all-keep P p [] w = tt
-  all-keep P p (a ∷ ys) w = all-pick P (p a) a (keep p ys) (w .0) (all-keep P p ys (w .1))
+  all-keep P p (a ∷ ys) w = all-choice P (p a) a (keep p ys) (w .0) (all-keep P p ys (w .1))
 
   -- nothing is kept where every test fails, and only there
   pub keep-none : (p : A → Bool) (ys : List A) → All (λ a. p a ≡ false) ys → keep p ys ≡ []
   unfolding keep
   keep-none p [] w = refl
-  keep-none p (a ∷ ys) w = pick-false (w .0) (a ∷ keep p ys) (keep p ys) ∙ keep-none p ys (w .1)
+  keep-none p (a ∷ ys) w = choice-false (w .0) (a ∷ keep p ys) (keep p ys) ∙ keep-none p ys (w .1)
 
-  pick-nil : (b : Bool) (a : A) (ys : List A) → pick b (a ∷ ys) ys ≡ [] → (b ≡ false) × (ys ≡ [])
-  pick-nil true a ys e = absurd (nil≢cons (sym e))
-  pick-nil false a ys e = (refl, e)
+  choice-nil : (b : Bool) (a : A) (ys : List A) → choice b (a ∷ ys) ys ≡ [] → (b ≡ false) × (ys ≡ [])
+  choice-nil true a ys e = absurd (nil≢cons (sym e))
+  choice-nil false a ys e = (refl, e)
 
   pub none-kept : (p : A → Bool) (ys : List A) → keep p ys ≡ [] → All (λ a. p a ≡ false) ys
   unfolding keep
   none-kept p [] e = tt
-  none-kept p (a ∷ ys) e = let h = pick-nil (p a) a (keep p ys) e in (h .0, none-kept p ys (h .1))
+  none-kept p (a ∷ ys) e = let h = choice-nil (p a) a (keep p ys) e in (h .0, none-kept p ys (h .1))
 
   -- some entry passes
   pub some-entry : (p : A → Bool) (ys : List A) → some p ys ≡ true → (a : A) × List·Memᴰ a ys × (p a ≡ true)

@@ -6,7 +6,7 @@ use mathlib.Core.Bool.{Bool, true, false, not, _&&_, _||_, false≢true}
 use native.Mathlib.Decide.{ℕ-discrete}
 use lib.Dec.{eqb}
 use borrow.Author.Tests.{eqb-true, eqb-false, eq-eqb, ne-eqb}
-use Rattle.basics.specs.Choice.{pick}
+use Rattle.basics.specs.Choice.{choice}
 
 -- by cases on a test, and on whether two numbers are equal
 pub by-test {κ} : {C : Type κ} (b : Bool) → (b ≡ true → C) → (b ≡ false → C) → C
@@ -27,11 +27,11 @@ bool-ext {a = false} {b = true} f g = g refl
 bool-ext {a = false} {b = false} f g = refl
 
 -- a choice whose test is known
-pub pick-true {ℓ} : {A : Type ℓ} {b : Bool} → b ≡ true → (x y : A) → pick b x y ≡ x
-pick-true e x y = ap (λ b. pick b x y) e
+pub choice-true {ℓ} : {A : Type ℓ} {b : Bool} → b ≡ true → (x y : A) → choice b x y ≡ x
+choice-true e x y = ap (λ b. choice b x y) e
 
-pub pick-false {ℓ} : {A : Type ℓ} {b : Bool} → b ≡ false → (x y : A) → pick b x y ≡ y
-pick-false e x y = ap (λ b. pick b x y) e
+pub choice-false {ℓ} : {A : Type ℓ} {b : Bool} → b ≡ false → (x y : A) → choice b x y ≡ y
+choice-false e x y = ap (λ b. choice b x y) e
 
 pub not-eqb-iff : (a b : ℕ) → (not (eqb a b) ≡ true) ↔ (a ≢ b)
 not-eqb-iff a b = (λ e. eqb-false a b (sym (not-not (eqb a b)) ∙ ap not e), λ d. ap not (ne-eqb a b d))

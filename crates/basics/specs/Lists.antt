@@ -2,7 +2,7 @@
 use Prim.Native.Nat.{ℕ, zero, suc}
 use mathlib.Core.Bool.{Bool, false, _||_}
 use mathlib.Core.List.{List, [], _∷_, _++_}
-use Rattle.basics.specs.Choice.{pick}
+use Rattle.basics.specs.Choice.{choice}
 
 -- a, a + 1, .., of them k
 unfoldable pub upFrom : ℕ → ℕ → List ℕ
@@ -12,7 +12,7 @@ upFrom a (suc k) = a ∷ upFrom (suc a) k
 -- the entries that pass a test, in their order
 unfoldable pub keep {ℓ} : {A : Type ℓ} → (A → Bool) → List A → List A
 keep p [] = []
-keep p (a ∷ ys) = pick (p a) (a ∷ keep p ys) (keep p ys)
+keep p (a ∷ ys) = choice (p a) (a ∷ keep p ys) (keep p ys)
 
 -- what a function makes of each entry, joined
 unfoldable pub each {ℓ κ} : {A : Type ℓ} {B : Type κ} → (A → List B) → List A → List B

@@ -7,7 +7,7 @@ use native.Mathlib.Decide.{decLe}
 use native.Mathlib.Omega.{arith}
 use lib.Dec.{eqb}
 use borrow.Author.Tests.{eq-eqb, ne-eqb, eqb-true, eqb-false}
-use Rattle.basics.specs.Choice.{pick}
+use Rattle.basics.specs.Choice.{choice}
 use Rattle.basics.proofs.Tests.{by-equal}
 use Rattle.words.specs.Word.{bit, flip, force, allOn, allOnes}
 use Rattle.words.proofs.Bits.{bit-le, bit-above}
@@ -81,16 +81,16 @@ fires-more g a s e =
 -- ---- where two gates do not do the same
 
 -- two gates with one target make different states where one of them fires and the other does not
-picks-differ : (a b : Bool) (s t : ℕ) → not (eqb (pick a (flip s t) s) (pick b (flip s t) s)) ≡ not (Bool·beq a b)
-picks-differ true true s t = ap not (eq-eqb (flip s t) (flip s t) refl)
-picks-differ true false s t = ap not (ne-eqb (flip s t) s (flip-differs s t))
-picks-differ false true s t = ap not (ne-eqb s (flip s t) (λ e. flip-differs s t (sym e)))
-picks-differ false false s t = ap not (eq-eqb s s refl)
+choices-differ : (a b : Bool) (s t : ℕ) → not (eqb (choice a (flip s t) s) (choice b (flip s t) s)) ≡ not (Bool·beq a b)
+choices-differ true true s t = ap not (eq-eqb (flip s t) (flip s t) refl)
+choices-differ true false s t = ap not (ne-eqb (flip s t) s (flip-differs s t))
+choices-differ false true s t = ap not (ne-eqb s (flip s t) (λ e. flip-differs s t (sym e)))
+choices-differ false false s t = ap not (eq-eqb s s refl)
 
 -- a gate changes the state where it fires
 pub step-changes : (g : Gate) (s : ℕ) → not (eqb s (step g s)) ≡ fires g s
 unfolding step
-step-changes g s = picks-differ false (fires g s) s (g .target) ∙ not-beq-false (fires g s)
+step-changes g s = choices-differ false (fires g s) s (g .target) ∙ not-beq-false (fires g s)
   where
     not-beq-false : (b : Bool) → not (Bool·beq false b) ≡ b
     not-beq-false true = refl
@@ -116,7 +116,7 @@ pub less-control-differs : (g : Gate) (c s : ℕ) → isControl g c ≡ true
 unfolding step lessControl
 less-control-differs g c s e =
     let less : Gate = lessControl c g in
-    picks-differ (fires less s) (fires g s) s (g .target)
+    choices-differ (fires less s) (fires g s) s (g .target)
     ∙ ap (λ b. not (Bool·beq (fires less s) b)) (fires-less g c s e)
     ∙ ap not (beq-sym (fires less s) (eqb (bit s c) 1 && fires less s))
     ∙ only-more (bit s c) (fires less s) (bit-le s c)
@@ -126,7 +126,7 @@ pub more-control-differs : (g : Gate) (a s : ℕ) → isControl g a ≡ false
     → not (eqb (step (moreControl a g) s) (step g s)) ≡ (eqb (bit s a) 0 && fires g s)
 unfolding step moreControl
 more-control-differs g a s e =
-    picks-differ (fires (moreControl a g) s) (fires g s) s (g .target)
+    choices-differ (fires (moreControl a g) s) (fires g s) s (g .target)
     ∙ ap (λ b. not (Bool·beq b (fires g s))) (fires-more g a s e)
     ∙ only-more (bit s a) (fires g s) (bit-le s a)
 

@@ -3,7 +3,7 @@ use Prim.Native.Nat.{ℕ}
 use mathlib.Core.Bool.{Bool}
 use mathlib.Core.List.{List, [], _∷_, reverse}
 use lib.ListN.{take, drop}
-use Rattle.basics.specs.Choice.{pick}
+use Rattle.basics.specs.Choice.{choice}
 use Rattle.words.specs.Word.{flip, allOn}
 use Rattle.circuit.specs.declared.Gate.{Gate}
 
@@ -13,7 +13,7 @@ fires g s = allOn (g .controls) s
 
 -- it then inverts its target, and changes nothing else
 unfoldable pub step : Gate → ℕ → ℕ
-step g s = pick (fires g s) (flip s (g .target)) s
+step g s = choice (fires g s) (flip s (g .target)) s
 
 -- the gates in order
 unfoldable pub run : List Gate → ℕ → ℕ

@@ -8,8 +8,10 @@ use Rattle.circuit.specs.Rules.{circuitSetRows, circuitRows, setRows, vectorRow
 use Rattle.circuit.specs.Answers.{told}
 use Rattle.circuit.proofs.forward.Reads as forward
 use Rattle.circuit.proofs.backward.Reads as backward
-use Rattle.simulator.specs.Rules.{faultRows, catchRows, testRows}
-use Rattle.simulator.specs.Multiple.{entriesRows, multipleRows}
+use Rattle.faults.specs.Rules.{faultRows}
+use Rattle.simulator.specs.Rules.{catchRows, testRows}
+use Rattle.faults.specs.Multiple.{entriesRows}
+use Rattle.simulator.specs.Rules.{multipleRows}
 use Rattle.simulator.specs.Answers.{toldCaught, toldMade}
 use Rattle.simulator.proofs.faulty_run.Reads as faulty-run
 use Rattle.simulator.proofs.catches.Reads as catches

@@ -10,22 +10,24 @@ use lib.Dec.{eqb}
 use borrow.Author.Tests.{eqb-false, ne-eqb}
 use lib.ListN.{length}
 use denote.Ref.{now}
-use Rattle.basics.specs.Choice.{pick}
+use Rattle.basics.specs.Choice.{choice}
 use Rattle.basics.specs.Lists.{All}
 use Rattle.refusals.specs.Tables.{Row, Told, firstOf}
 use Rattle.refusals.specs.Tables.Row.{refuse_at_when_}
 use Rattle.refusals.specs.Tables.Told.{answered, refused}
 use Rattle.refusals.proofs.Tables.{Numbered}
 use Rattle.circuit.specs.Rules.{circuitSetRows, circuitRows, setRows, vectorRows, levelRows, runRows}
-use Rattle.simulator.specs.Rules.{faultRows, catchRows, testRows}
-use Rattle.simulator.specs.Multiple.{entriesRows, multipleRows}
+use Rattle.faults.specs.Rules.{faultRows}
+use Rattle.simulator.specs.Rules.{catchRows, testRows}
+use Rattle.faults.specs.Multiple.{entriesRows}
+use Rattle.simulator.specs.Rules.{multipleRows}
 use Rattle.judge.specs.Rules.{classRows, judgeRows}
 use Rattle.judge.specs.Judging.{verdict}
 use Rattle.dropping.specs.Rules.{recordRows, dropRows, dropRecordsRows}
 use Rattle.testsets.specs.Rules.{backwardRows, compactRows}
 use Rattle.job.specs.Rules.{readRows, writeRows, headerRows, contentRows}
 use Rattle.report_text.specs.Rules.{reportRows}
-use Rattle.nufsadeem.specs.Fields.{fields}
+use Rattle.answers.specs.Fields.{fields}
 use Rattle.nufsadeem.proofs.nuf_forward.Reads as forward
 use Rattle.nufsadeem.proofs.nuf_backward.Reads as backward
 use Rattle.nufsadeem.proofs.nuf_catches.Reads as catches
@@ -45,21 +47,21 @@ use Rattle.demands.proofs.Refusing.{numbers, inOrder, Refuses, Leaves, 
 
 -- what a C answer tells, by its number, its place and its other fields: its values where the number is 0, and else a refusal
 abbrev pub toldBy : ℕ → ℕ → List ℕ → Told
-toldBy number place values = pick (eqb number 0) (answered values) (refused number place)
+toldBy number place values = choice (eqb number 0) (answered values) (refused number place)
 
 refused-told : (k p : ℕ) (values : List ℕ) → (k ≡ 0 → ⊥) → toldBy k p values ≡ refused k p
-refused-told k p values some = ap (λ t. pick t (answered values) (refused k p)) (ne-eqb k 0 some)
+refused-told k p values some = ap (λ t. choice t (answered values) (refused k p)) (ne-eqb k 0 some)
 
-picked-refused : (t : Bool) (number place : ℕ) (values : List ℕ) (k p : ℕ) → pick t (answered values) (refused number place) ≡ refused k p
+chosen-refused : (t : Bool) (number place : ℕ) (values : List ℕ) (k p : ℕ) → choice t (answered values) (refused number place) ≡ refused k p
     → (t ≡ false) × (number ≡ k) × (place ≡ p)
-picked-refused true number place values k p e = let z : _≡_ {A = ℕ} 0 1 = cc in absurd (omega arith)
-picked-refused false number place values k p e = (refl, cc, cc)
+chosen-refused true number place values k p e = let z : _≡_ {A = ℕ} 0 1 = cc in absurd (omega arith)
+chosen-refused false number place values k p e = (refl, cc, cc)
 
 -- it tells refusal k at place p exactly if these are its number and its place, and the number is not 0
 pub tells-refusal : (number place : ℕ) (values : List ℕ) (k p : ℕ)
     → (toldBy number place values ≡ refused k p) ↔ ((number ≡ k) × (place ≡ p) × (number ≡ 0 → ⊥))
 tells-refusal number place values k p = (
-  λ e. let w = picked-refused (eqb number 0) number place values k p e in (w .1, w .2, eqb-false number 0 (w .0)),
+  λ e. let w = chosen-refused (eqb number 0) number place values k p e in (w .1, w .2, eqb-false number 0 (w .0)),
   λ w. refused-told number place values (w .2) ∙ (λ i. refused (w .0 i) (w .1 i)),
 )
 

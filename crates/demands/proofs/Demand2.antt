@@ -20,16 +20,16 @@ use Rattle.circuit.specs.Runs.{run, forward, backward}
 use Rattle.circuit.specs.Sound.{AllOk, Sound}
 use Rattle.circuit.specs.declared.Gate.{Gate}
 use Rattle.circuit.proofs.RunLaws.{backward-forward, forward-backward}
-use Rattle.simulator.specs.Faults.{stuckRun, faulty, caught}
-use Rattle.simulator.specs.Rules.{isFault}
-use Rattle.simulator.specs.Multiple.{caughtTogether}
+use Rattle.simulator.specs.Faulty.{stuckRun, faulty, caught}
+use Rattle.faults.specs.Rules.{isFault}
+use Rattle.simulator.specs.Faulty.{caughtTogether}
 use Rattle.simulator.specs.Tests.{testFor}
-use Rattle.simulator.specs.declared.Fault.{Fault}
-use Rattle.simulator.proofs.FaultLaws.{caught-iff}
+use Rattle.faults.specs.declared.Fault.{Fault}
+use Rattle.simulator.proofs.FaultyLaws.{caught-iff}
 use Rattle.simulator.proofs.CatchLaws.{stuck-differs, missing-gate-differs, missing-control-differs, extra-control-differs}
-use Rattle.simulator.proofs.ClassLaws.{stuck-fault, names-gate, is-missing, is-extra}
+use Rattle.faults.proofs.ClassLaws.{stuck-fault, names-gate, is-missing, is-extra}
 use Rattle.simulator.proofs.TestLaws.{test-catches}
-use Rattle.judge.specs.Classes.{classFaults}
+use Rattle.faults.specs.Classes.{classFaults}
 use Rattle.judge.specs.Judging.{caughtBySome, caughtOf, left, verdict}
 use Rattle.judge.specs.Rules.{judgeRows}
 use Rattle.judge.specs.Answers.{toldVerdict}
@@ -37,7 +37,7 @@ use Rattle.judge.specs.Coverages.{emptyCoverage, withAll, isMarked}
 use Rattle.judge.specs.declared.Verdict.{Verdict}
 use Rattle.judge.specs.declared.Verdict.the-variants.{Complete, Left}
 use Rattle.judge.proofs.AnswerLaws.{told-verdict-one}
-use Rattle.judge.proofs.ClassLists.{in-class-list}
+use Rattle.faults.proofs.ClassLists.{in-class-list}
 use Rattle.judge.proofs.Theorems.{coverage-is-judge, complete-means, shown-means, numbers-true}
 use Rattle.demands.proofs.FirstBroken.{answer-is}
 

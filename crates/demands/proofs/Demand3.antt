@@ -12,9 +12,10 @@ use Rattle.circuit.specs.Gates.{gatesOf}
 use Rattle.circuit.specs.Rules.{circuitRows}
 use Rattle.circuit.specs.Sound.{AllOk}
 use Rattle.circuit.specs.declared.Gate.{Gate}
-use Rattle.simulator.specs.Entries.{StuckOk}
-use Rattle.simulator.specs.declared.Fault.{Fault}
-use Rattle.testsets.specs.Sets.{score, best, siteCount, bound, compactSet}
+use Rattle.faults.specs.Entries.{StuckOk}
+use Rattle.faults.specs.declared.Fault.{Fault}
+use Rattle.testsets.specs.Sets.{score, best, bound, compactSet}
+use Rattle.faults.specs.Sites.{siteCount}
 use Rattle.testsets.specs.Rules.{compactRows}
 use Rattle.testsets.specs.Answers.{toldMade}
 use Rattle.testsets.specs.declared.Made.{Made}

@@ -4,7 +4,7 @@ use mathlib.Core.Path.{_≡_}
 use mathlib.Core.Bool.{Bool, true, _&&_}
 use mathlib.Core.List.{List, [], _∷_}
 use lib.Dec.{eqb, ltb}
-use Rattle.basics.specs.Choice.{pick}
+use Rattle.basics.specs.Choice.{choice}
 use Rattle.refusals.specs.Tables.{Row, Told, after}
 use Rattle.refusals.specs.Tables.Row.{refuse_at_when_}
 use Rattle.refusals.specs.Tables.Told.{refused}
@@ -18,7 +18,7 @@ numbers (refuse number at place when broken ∷ rows) = number ∷ numbers rows
 
 -- the turn of a rule: its number, and for 10 one that is above all
 abbrev pub turn : ℕ → ℕ
-turn number = pick (eqb number 10) 1000 number
+turn number = choice (eqb number 10) 1000 number
 
 abbrev pub inOrder : List ℕ → Bool
 inOrder [] = true

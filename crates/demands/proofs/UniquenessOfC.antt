@@ -3,12 +3,12 @@ use mathlib.Core.Path.{_≡_}
 use mathlib.Core.List.{List, [], _∷_}
 use Prim.Native.Nat.{ℕ}
 use denote.Ref.{now}
-use Rattle.nufsadeem.specs.declared.answers.Run.{Run}
-use Rattle.nufsadeem.specs.declared.answers.Catch.{Catch}
-use Rattle.nufsadeem.specs.declared.answers.Vector.{Vector}
-use Rattle.nufsadeem.specs.declared.answers.Count.{Count}
-use Rattle.nufsadeem.specs.declared.judging.Judgement.{Judgement}
-use Rattle.nufsadeem.specs.declared.jobs.Job.{Job}
+use Rattle.answers.specs.declared.Run.{Run}
+use Rattle.answers.specs.declared.Catch.{Catch}
+use Rattle.answers.specs.declared.Vector.{Vector}
+use Rattle.answers.specs.declared.Count.{Count}
+use Rattle.answers.specs.declared.verdicts.Judgement.{Judgement}
+use Rattle.answers.specs.declared.jobs.Job.{Job}
 use Rattle.nufsadeem.proofs.nuf_forward.Reads as forward
 use Rattle.nufsadeem.proofs.nuf_backward.Reads as backward
 use Rattle.nufsadeem.proofs.nuf_catches.Reads as catches

@@ -17,11 +17,12 @@ use Rattle.circuit.specs.Gates.{gatesOf, gateAt, noGate}
 use Rattle.circuit.specs.Controls.{isControl}
 use Rattle.circuit.specs.Runs.{fires, step, run}
 use Rattle.circuit.specs.Rules.{badGate, firstBadGate, firstBadVector, circuitSetRows, circuitRows, setRows, vectorRows}
-use Rattle.simulator.specs.Faults.{forceAt, stuckRun, without, faulty, caught}
-use Rattle.simulator.specs.Rules.{isStuckAt, isGate, isMissingGate, isMissingControl, isExtraControl, isFault, noFault, faultsOf, firstBadRecord}
-use Rattle.simulator.specs.Sites.{sites}
-use Rattle.simulator.specs.declared.Fault.{Fault}
-use Rattle.judge.specs.Classes.{faultOf, stuckFaults, classFaults, isClass}
+use Rattle.simulator.specs.Faulty.{forceAt, stuckRun, without, faulty, caught}
+use Rattle.faults.specs.Rules.{isStuckAt, isGate, isMissingGate, isMissingControl, isExtraControl, isFault}
+use Rattle.faults.specs.Records.{noFault, faultsOf, firstBadRecord}
+use Rattle.faults.specs.Sites.{sites}
+use Rattle.faults.specs.declared.Fault.{Fault}
+use Rattle.faults.specs.Classes.{faultOf, stuckFaults, classFaults, isClass}
 use Rattle.judge.specs.Judging.{caughtBySome, left, verdict}
 use Rattle.judge.specs.Rules.{classRows, judgeRows}
 use Rattle.judge.specs.Answers.{toldVerdict}
@@ -30,14 +31,15 @@ use Rattle.judge.specs.declared.Verdict.the-variants.{Complete, Left}
 use Rattle.dropping.specs.Dropping.{uncaught, dropped, numbersOf}
 use Rattle.dropping.specs.Rules.{badRecord, recordRows, dropRows}
 use Rattle.testsets.specs.Log2.{log2In, log2}
-use Rattle.testsets.specs.Sets.{score, bestOf, best, picks, siteCount, bound, compactSet}
+use Rattle.testsets.specs.Sets.{score, bestOf, best, picks, bound, compactSet}
+use Rattle.faults.specs.Sites.{siteCount}
 use Rattle.testsets.specs.Rules.{compactRows}
 use Rattle.job.specs.Bytes.{numberAt, wordsAt}
 use Rattle.job.specs.Image.{linesIn, classesIn, gatesIn, vectorsIn, gateWords, vectorWords}
 use Rattle.job.specs.Rules.{badClasses, badSizes, readRows, headerRows, contentRows, badLines, badCounts}
 use Rattle.job.specs.Answers.{toldRead}
 use Rattle.job.specs.declared.Read.the-variants.{Refused}
-use Rattle.bench.specs.Sample.{sampleWords, sampleJob}
+use Rattle.proved_samples.specs.Sample.{sampleWords, sampleJob}
 
 -- ---- what is promised
 

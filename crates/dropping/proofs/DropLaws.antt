@@ -6,14 +6,15 @@ use mathlib.Core.List.{List, [], _∷_, _++_, append-assoc, append-nil}
 use native.Mathlib.Omega.{arith}
 use lib.ListN.{length, getD, set, replicate, length-append, length-replicate}
 use lib.Seq.{set-at, getD-at, append-snoc}
-use Rattle.basics.specs.Choice.{pick, count}
+use Rattle.basics.specs.Choice.{choice, count}
 use Rattle.basics.specs.Lists.{keep}
-use Rattle.basics.proofs.Tests.{pick-true, pick-false}
+use Rattle.basics.proofs.Tests.{choice-true, choice-false}
 use Rattle.basics.proofs.Lists.{keep-le}
 use Rattle.circuit.specs.declared.Gate.{Gate}
-use Rattle.simulator.specs.Faults.{caught}
-use Rattle.simulator.specs.Rules.{isFault, noFault}
-use Rattle.simulator.specs.declared.Fault.{Fault}
+use Rattle.simulator.specs.Faulty.{caught}
+use Rattle.faults.specs.Rules.{isFault}
+use Rattle.faults.specs.Records.{noFault}
+use Rattle.faults.specs.declared.Fault.{Fault}
 use Rattle.dropping.specs.Dropping.{uncaught, dropped}
 use Rattle.dropping.specs.Records.{AllFaults, staysAt, taken}
 
@@ -42,10 +43,10 @@ module _ (front : List Fault) (h : ℕ) (f : Fault) (r : List Fault) where
 -- ---- what is left
 
 module _ (gs : List Gate) (x : ℕ) where
-  uncaught-on : (f : Fault) (fs : List Fault) (stays : Bool) → not (caught gs f x) ≡ stays → uncaught gs x (f ∷ fs) ≡ pick stays
+  uncaught-on : (f : Fault) (fs : List Fault) (stays : Bool) → not (caught gs f x) ≡ stays → uncaught gs x (f ∷ fs) ≡ choice stays
       (f ∷ uncaught gs x fs) (uncaught gs x fs)
   unfolding uncaught keep
-  uncaught-on f fs stays e = ap (λ b. pick b (f ∷ uncaught gs x fs) (uncaught gs x fs)) e
+  uncaught-on f fs stays e = ap (λ b. choice b (f ∷ uncaught gs x fs) (uncaught gs x fs)) e
 
   pub uncaught-le : (fs : List Fault) → length (uncaught gs x fs) ≤ length fs
   unfolding uncaught
@@ -66,10 +67,10 @@ module _ (gs : List Gate) (x : ℕ) where
 
 module _ (fs : List Fault) (ahead left : ℕ) (f b : Fault) (b-is : b ≡ noFault) where
   pub taken-caught : (stays : Bool) → stays ≡ false → set fs ahead b ≡ taken stays fs ahead left
-  taken-caught stays e = ap (set fs ahead) b-is ∙ sym (pick-false e _ _)
+  taken-caught stays e = ap (set fs ahead) b-is ∙ sym (choice-false e _ _)
 
   pub taken-stays : (stays : Bool) → f ≡ getD fs ahead noFault → stays ≡ true → set (set fs ahead b) left f ≡ taken stays fs ahead left
-  taken-stays stays f-is e = ap (λ y. set (set fs ahead y) left f) b-is ∙ ap (set (set fs ahead noFault) left) f-is ∙ sym (pick-true e _ _)
+  taken-stays stays f-is e = ap (λ y. set (set fs ahead y) left f) b-is ∙ ap (set (set fs ahead noFault) left) f-is ∙ sym (choice-true e _ _)
 
 -- ---- the loop
 
@@ -138,7 +139,7 @@ module _ {n : ℕ} {gs : List Gate} {x : ℕ} {fs list : List Fault} {left i : �
     pub fault-here : isFault n gs (getD list i noFault) ≡ true
     fault-here = ap (isFault n gs) f-is ∙ faults-now .0
 
-    seen : (stays : Bool) → staysAt gs x list i ≡ stays → uncaught gs x (g .rest) ≡ pick stays (f ∷ uncaught gs x r) (uncaught gs x r)
+    seen : (stays : Bool) → staysAt gs x list i ≡ stays → uncaught gs x (g .rest) ≡ choice stays (f ∷ uncaught gs x r) (uncaught gs x r)
     unfolding staysAt
     seen stays e = ap (uncaught gs x) (here h .2) ∙ uncaught-on gs x f r stays (ap (λ y. not (caught gs y x)) (sym f-is) ∙ e)
 

@@ -11,9 +11,9 @@ use denote.RattleType.{RattleType}
 use denote.Struct.Declared.{row}
 use borrow.Table.Copies.{cStruct}
 use borrow.Table.Elements.{at-mul}
-use Rattle.simulator.specs.Rules.{noFault}
-use Rattle.simulator.proofs.Fault.{the-type, the-row}
-use Rattle.simulator.proofs.Fault.Laws as Laws
+use Rattle.faults.specs.Records.{noFault}
+use Rattle.faults.proofs.Fault.{the-type, the-row}
+use Rattle.faults.proofs.Fault.Laws as Laws
 use Rattle.walk.proofs.Walk.{Elem}
 
 abbrev pub R : RattleType

@@ -5,9 +5,9 @@ use mathlib.Core.List.{List, [], _∷_}
 use native.Mathlib.Nat.{not-suc-le-zero}
 use native.Mathlib.Omega.{arith}
 use lib.ListN.{length, set, length-set}
-use Rattle.simulator.specs.Rules.{faultsOf}
-use Rattle.simulator.specs.declared.Fault.{Fault}
-use Rattle.simulator.proofs.RecordLaws.{records-count}
+use Rattle.faults.specs.Records.{faultsOf}
+use Rattle.faults.specs.declared.Fault.{Fault}
+use Rattle.faults.proofs.RecordLaws.{records-count}
 use Rattle.dropping.specs.Dropping.{numbersOf}
 
 pub faults-numbers : (fs : List Fault) → faultsOf (numbersOf fs) ≡ fs

@@ -21,10 +21,11 @@ use Rattle.circuit.specs.Gates.{gatesOf}
 use Rattle.circuit.specs.Rules.{circuitRows, vectorRows}
 use Rattle.circuit.specs.declared.Gate.{Gate}
 use Rattle.circuit.proofs.RuleLaws.{VectorOk, vector-ok}
-use Rattle.simulator.specs.Rules.{isFault, faultRows, faultsOf, firstBadRecord}
-use Rattle.simulator.specs.declared.Fault.{Fault}
-use Rattle.simulator.proofs.RecordLaws.{records-count}
-use Rattle.simulator.proofs.RuleLaws.{fault-ok}
+use Rattle.faults.specs.Rules.{isFault, faultRows}
+use Rattle.faults.specs.Records.{faultsOf, firstBadRecord}
+use Rattle.faults.specs.declared.Fault.{Fault}
+use Rattle.faults.proofs.RecordLaws.{records-count}
+use Rattle.faults.proofs.RuleLaws.{fault-ok}
 use Rattle.dropping.specs.Rules.{badRecord, recordRows, dropRows, dropRecordsRows}
 use Rattle.dropping.specs.Records.{AllFaults, Records}
 use Rattle.dropping.specs.Answers.{isWrong, answerTo}

@@ -13,8 +13,8 @@ use Rattle.refusals.specs.Places.{firstBad, inWord}
 use Rattle.circuit.specs.Gates.{gatesOf}
 use Rattle.circuit.specs.Rules.{circuitRows, vectorRows}
 use Rattle.circuit.specs.declared.Gate.{Gate}
-use Rattle.simulator.specs.Rules.{faultsOf, firstBadRecord}
-use Rattle.simulator.specs.declared.Fault.{Fault}
+use Rattle.faults.specs.Records.{faultsOf, firstBadRecord}
+use Rattle.faults.specs.declared.Fault.{Fault}
 use Rattle.dropping.specs.Dropping.{uncaught, dropped, numbersOf}
 use Rattle.dropping.specs.Rules.{badRecord, recordRows, dropRows, dropRecordsRows}
 use Rattle.dropping.specs.Answers.{toldDropped}

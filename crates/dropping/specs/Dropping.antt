@@ -5,9 +5,9 @@ use mathlib.Core.List.{List, [], _∷_, _++_}
 use lib.ListN.{length, replicate}
 use Rattle.basics.specs.Lists.{keep}
 use Rattle.circuit.specs.declared.Gate.{Gate}
-use Rattle.simulator.specs.Faults.{caught}
-use Rattle.simulator.specs.Rules.{noFault}
-use Rattle.simulator.specs.declared.Fault.{Fault}
+use Rattle.simulator.specs.Faulty.{caught}
+use Rattle.faults.specs.Records.{noFault}
+use Rattle.faults.specs.declared.Fault.{Fault}
 
 -- the faults that the vector does not catch
 unfoldable pub uncaught : List Gate → ℕ → List Fault → List Fault

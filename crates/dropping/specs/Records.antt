@@ -4,12 +4,13 @@ use mathlib.Core.Path.{_≡_}
 use mathlib.Core.Bool.{Bool, true, not}
 use mathlib.Core.List.{List}
 use lib.ListN.{length, getD, set}
-use Rattle.basics.specs.Choice.{pick}
+use Rattle.basics.specs.Choice.{choice}
 use Rattle.basics.specs.Lists.{All}
 use Rattle.circuit.specs.declared.Gate.{Gate}
-use Rattle.simulator.specs.Faults.{caught}
-use Rattle.simulator.specs.Rules.{isFault, faultsOf, noFault}
-use Rattle.simulator.specs.declared.Fault.{Fault}
+use Rattle.simulator.specs.Faulty.{caught}
+use Rattle.faults.specs.Rules.{isFault}
+use Rattle.faults.specs.Records.{faultsOf, noFault}
+use Rattle.faults.specs.declared.Fault.{Fault}
 
 -- every record is a fault of the circuit
 abbrev pub AllFaults : ℕ → List Gate → List Fault → Type 0
@@ -26,4 +27,4 @@ staysAt gs x fs ahead = not (caught gs (getD fs ahead noFault) x)
 
 -- that record is blanked, and written behind those that stay if it stays too
 abbrev pub taken : Bool → List Fault → ℕ → ℕ → List Fault
-taken stays fs ahead left = pick stays (set (set fs ahead noFault) left (getD fs ahead noFault)) (set fs ahead noFault)
+taken stays fs ahead left = choice stays (set (set fs ahead noFault) left (getD fs ahead noFault)) (set fs ahead noFault)

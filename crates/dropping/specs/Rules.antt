@@ -9,8 +9,9 @@ use Rattle.refusals.specs.Places.{firstBad, inWord}
 use Rattle.circuit.specs.Gates.{gatesOf}
 use Rattle.circuit.specs.Rules.{circuitRows, vectorRows}
 use Rattle.circuit.specs.declared.Gate.{Gate}
-use Rattle.simulator.specs.Rules.{isFault, firstBadRecord}
-use Rattle.simulator.specs.declared.Fault.{Fault}
+use Rattle.faults.specs.Rules.{isFault}
+use Rattle.faults.specs.Records.{firstBadRecord}
+use Rattle.faults.specs.declared.Fault.{Fault}
 
 -- a record that is no fault of the circuit; a blank one is none
 unfoldable pub badRecord : ℕ → List Gate → Fault → Bool

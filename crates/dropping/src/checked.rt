@@ -6,13 +6,14 @@ ghost use lib.ListN.{length, getD, set};
 ghost use Rattle.basics.specs.Choice.{count};
 ghost use Rattle.circuit.specs.Gates.{gatesOf};
 ghost use Rattle.circuit.specs.Sound.{Sound};
-ghost use Rattle.simulator.specs.Faults.{caught};
-ghost use Rattle.simulator.specs.Rules.{isFault, faultsOf, noFault};
+ghost use Rattle.simulator.specs.Faulty.{caught};
+ghost use Rattle.faults.specs.Rules.{isFault};
+ghost use Rattle.faults.specs.Records.{faultsOf, noFault};
 ghost use Rattle.dropping.specs.Dropping.{uncaught, dropped, numbersOf};
 ghost use Rattle.dropping.specs.Records.{AllFaults, Records, staysAt, taken};
-use simulator::Fault;
+use faults::Fault;
+use faults::records::record_at;
 use simulator::checked::catches;
-use simulator::records::record_at;
 
 // A blank record.
 pub fn blank() -> Fault

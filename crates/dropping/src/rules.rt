@@ -6,14 +6,14 @@ ghost use Rattle.refusals.specs.Places.{firstBad};
 ghost use Rattle.refusals.specs.Checks.{fine, found};
 ghost use Rattle.circuit.specs.Gates.{gatesOf};
 ghost use Rattle.circuit.specs.Sound.{Sound};
-ghost use Rattle.simulator.specs.Rules.{firstBadRecord};
+ghost use Rattle.faults.specs.Records.{firstBadRecord};
 ghost use Rattle.dropping.specs.Rules.{badRecord, recordRows, dropRows};
 use crate::is_wrong;
 use circuit::rules::check_vector;
+use faults::Fault;
+use faults::records::record_at;
+use faults::rules::check_fault;
 use refusals::Checked;
-use simulator::Fault;
-use simulator::records::record_at;
-use simulator::rules::check_fault;
 
 // Whether a record is no fault of the circuit.
 pub fn bad_record(lines: u32, gates: &[u32], fault: Fault) -> bool

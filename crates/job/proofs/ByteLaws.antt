@@ -8,6 +8,7 @@ use native.Mathlib.Nat.{pow-suc}
 use lib.ListN.{length, getD, drop, set, drop-of-length-le}
 use lib.Seq.{drop-cons, sets, sets-eq}
 use Rattle.basics.specs.Lists.{each}
+use Rattle.basics.proofs.PutLaws.{sets-append, sets-all}
 use Rattle.job.specs.Bytes.{bytesOf, numberAt, wordsAt}
 
 -- ---- numbers read
@@ -27,18 +28,6 @@ number-fits zero bytes at h = omega arith
 number-fits (suc width) bytes at h = omega (arith, h at, number-fits width bytes (suc at) h, pow-suc 256 width)
 
 -- ---- numbers written
-
--- a run of stores in two parts
-pub sets-append : (l : List ℕ) (i k : ℕ) (xs ys : List ℕ) → i + length xs ≡ k → sets (sets l i xs) k ys ≡ sets l i (xs ++ ys)
-sets-append l i k [] ys e = let f : k ≡ i = omega arith in rw f
-sets-append l i k (a ∷ xs) ys e = sets-append (set l i a) (suc i) k xs ys (omega arith)
-
--- a run of stores from the front, and over the whole list
-pub sets-front : (l xs : List ℕ) → length xs ≤ length l → sets l 0 xs ≡ xs ++ drop (length xs) l
-sets-front l xs h = let e : 0 + length xs ≡ length xs = omega arith in sets-eq xs l 0 (omega arith) ∙ rw e
-
-sets-all : (l xs : List ℕ) → length xs ≡ length l → sets l 0 xs ≡ xs
-sets-all l xs e = sets-front l xs (omega arith) ∙ ap (λ r. xs ++ r) (drop-of-length-le l {i = length xs} (omega arith)) ∙ append-nil xs
 
 pub put-two : (l : List ℕ) (at x : ℕ) → set (set l at (x % 256)) (at + 1) (x / 256 % 256) ≡ sets l at (bytesOf 2 x)
 unfolding bytesOf

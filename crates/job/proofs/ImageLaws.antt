@@ -9,7 +9,8 @@ use Rattle.basics.specs.Lists.{each}
 use Rattle.basics.proofs.Lists.{length-each}
 use Rattle.job.specs.Bytes.{bytesOf, numberAt, wordsAt}
 use Rattle.job.specs.Image.{header, fieldBytes, gateCount, image, gatesIn, vectorsIn, gateWords, vectorWords}
-use Rattle.job.proofs.ByteLaws.{sets-append, sets-front, length-bytes, length-words}
+use Rattle.basics.proofs.PutLaws.{sets-append, sets-front}
+use Rattle.job.proofs.ByteLaws.{length-bytes, length-words}
 
 -- ---- lengths
 

@@ -5,13 +5,13 @@ use mathlib.Core.Bool.{Bool, true, false, _&&_}
 use native.Mathlib.Omega.{arith}
 use lib.Dec.{eqb}
 use borrow.Author.Tests.{eqb-true}
-use Rattle.basics.specs.Choice.{pick}
+use Rattle.basics.specs.Choice.{choice}
 use Rattle.basics.proofs.Tests.{and-both}
 use Rattle.refusals.specs.Tables.Told.{refused}
 use Rattle.refusals.specs.Checks.{fine}
 use Rattle.refusals.specs.declared.Refusal.{Refusal}
 use Rattle.refusals.proofs.Tables.{told-refusal}
-use Rattle.simulator.specs.declared.Fault.{Fault}
+use Rattle.faults.specs.declared.Fault.{Fault}
 use Rattle.judge.specs.Answers.{toldVerdict, toldBeside}
 use Rattle.judge.specs.declared.Verdict.{Verdict}
 use Rattle.judge.specs.declared.Verdict.the-variants.{Complete, Left, Refused}
@@ -42,7 +42,7 @@ none-is r e =
     λ i. record { number = eqb-true (r .number) 0 (both .0) i; place = eqb-true (r .place) 0 (both .1) i }
 
 beside-one : (b c : Bool) (r s : Refusal) → (b ≡ true → c ≡ true → r ≡ s)
-    → pick b fine (refused (r .number) (r .place)) ≡ pick c fine (refused (s .number) (s .place)) → r ≡ s
+    → choice b fine (refused (r .number) (r .place)) ≡ choice c fine (refused (s .number) (s .place)) → r ≡ s
 beside-one true true r s none e = none refl refl
 beside-one true false r s none e = let z : _≡_ {A = ℕ} 0 1 = cc in absurd (omega arith)
 beside-one false true r s none e = let z : _≡_ {A = ℕ} 0 1 = cc in absurd (omega arith)

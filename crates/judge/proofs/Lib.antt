@@ -1,16 +1,7 @@
-pub mod ClassParts
-pub mod ClassLists
-pub mod ClassCounts
-pub mod SiteCount
 pub mod Verdicts
-pub mod Counting
-pub mod MarkLaws
 pub mod CoverLaws
 pub mod MeanLaws
-pub mod TurnLaws
 pub mod SetLaws
-pub mod TallyLaws
-pub mod FirstLaws
 pub mod RuleLaws
 pub mod AnswerLaws
 pub mod Theorems

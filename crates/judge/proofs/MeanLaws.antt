@@ -7,21 +7,22 @@ use native.Mathlib.Omega.{arith}
 use lib.ListN.{length, getD, replicate, length-replicate}
 use lib.Dec.{eqb}
 use borrow.Author.Tests.{ne-eqb}
-use Rattle.basics.specs.Choice.{pick}
+use Rattle.basics.specs.Choice.{choice}
 use Rattle.basics.specs.Lists.{some}
 use Rattle.basics.proofs.Tests.{by-equal}
 use Rattle.words.specs.Word.{bit}
 use Rattle.words.proofs.Bits.{bit-of-zero}
 use Rattle.circuit.specs.declared.Gate.{Gate}
-use Rattle.simulator.specs.Faults.{caught}
-use Rattle.simulator.specs.declared.Fault.{Fault}
-use Rattle.judge.specs.Classes.{faultOf}
+use Rattle.simulator.specs.Faulty.{caught}
+use Rattle.faults.specs.declared.Fault.{Fault}
+use Rattle.faults.specs.Classes.{faultOf}
 use Rattle.judge.specs.Judging.{caughtBySome}
-use Rattle.judge.specs.Coverages.{emptyCoverage, levelMarks, gateMarks, withAll, markAll, isMarked}
+use Rattle.judge.specs.Coverages.{emptyCoverage, withAll, isMarked}
+use Rattle.marking.specs.Marks.{levelMarks, gateMarks, markAll}
 use Rattle.judge.specs.declared.coverage.Coverage.{Coverage}
-use Rattle.judge.proofs.MarkLaws.{on-caught-lines}
-use Rattle.judge.proofs.CoverLaws.{level-marks-length, gate-marks-length, level-mark-at, gate-mark-at, mark-all-on, with-all-stuck-0}
-use Rattle.judge.proofs.CoverLaws.{with-all-stuck-1, with-all-gates, with-all-controls, with-all-extras}
+use Rattle.marking.proofs.MarkLaws.{on-caught-lines}
+use Rattle.marking.proofs.MarkedLaws.{level-marks-length, gate-marks-length, level-mark-at, gate-mark-at, mark-all-on}
+use Rattle.judge.proofs.CoverLaws.{with-all-stuck-0, with-all-stuck-1, with-all-gates, with-all-controls, with-all-extras}
 
 -- a coverage has a word for each of 1,025 levels and 1,024 gates
 pub record Sized (c : Coverage) : Type 0 where
@@ -113,11 +114,11 @@ zeros-length k = length-replicate {A = ℕ} k 0
 off-at : (k i j : ℕ) → eqb (bit (getD (replicate k 0) i 0) j) 1 ≡ false
 off-at k i j = ap (λ w. eqb (bit w j) 1) (zeros-at k i) ∙ ne-eqb (bit 0 j) 1 (λ e. omega (arith, bit-of-zero j))
 
-either : (b : Bool) {p q : Bool} → p ≡ false → q ≡ false → pick b p q ≡ false
+either : (b : Bool) {p q : Bool} → p ≡ false → q ≡ false → choice b p q ≡ false
 either true e d = e
 either false e d = d
 
-pick-same : (b : Bool) (ws : List ℕ) → pick b ws ws ≡ ws
+pick-same : (b : Bool) (ws : List ℕ) → choice b ws ws ≡ ws
 pick-same true ws = refl
 pick-same false ws = refl
 

@@ -6,7 +6,7 @@ use mathlib.Core.List.{List, [], _∷_, _++_}
 use lib.ListN.{length}
 use lib.Dec.{eqb, ltb, leb}
 use borrow.Author.Tests.{leb-true, lt-leb, not-false}
-use Rattle.basics.specs.Choice.{pick}
+use Rattle.basics.specs.Choice.{choice}
 use Rattle.basics.proofs.Tests.{and-both, or-neither}
 use Rattle.refusals.specs.Tables.{firstOf}
 use Rattle.refusals.specs.Tables.Row.{refuse_at_when_}
@@ -17,7 +17,7 @@ use Rattle.circuit.specs.Gates.{gatesOf}
 use Rattle.circuit.specs.Rules.{circuitSetRows, circuitRows, firstBadVector, setRows, vectorRows}
 use Rattle.circuit.specs.Sound.{Sound}
 use Rattle.circuit.proofs.RuleLaws.{sound, VectorsOk, vectors-ok}
-use Rattle.judge.specs.Classes.{isClass}
+use Rattle.faults.specs.Classes.{isClass}
 use Rattle.judge.specs.Rules.{classRows, judgeRows, countRows}
 
 pub class-ok : (class : ℕ) → fine ≡ firstOf (classRows class) fine → (1 ≤ class) × (class ≤ 4)
@@ -62,7 +62,7 @@ set-circuit n words xs class e =
 pub vector-passes : (n : ℕ) (words : List ℕ) (x : ℕ) → fine ≡ firstOf (circuitRows n words) fine → x < 2 ^ n
     → fine ≡ firstOf (circuitRows n words ++ vectorRows n x) fine
 unfolding vectorRows
-vector-passes n words x e h = sym (fine-on (circuitRows n words) (vectorRows n x) fine e ∙ ap (λ b. pick b (refused 8 1) fine) (lt-leb (2 ^ n) x h))
+vector-passes n words x e h = sym (fine-on (circuitRows n words) (vectorRows n x) fine e ∙ ap (λ b. choice b (refused 8 1) fine) (lt-leb (2 ^ n) x h))
 
 pub count-passes : (n : ℕ) (words xs : List ℕ) (class : ℕ) → fine ≡ firstOf (judgeRows n words xs class) fine
     → fine ≡ firstOf (countRows n words class) fine

@@ -10,18 +10,19 @@ use lib.Seq.{drop-cons}
 use Rattle.basics.specs.Lists.{All}
 use Rattle.basics.proofs.All.{all-map}
 use Rattle.basics.proofs.Kept.{keep-agree}
-use Rattle.basics.proofs.Tests.{by-equal, pick-true, pick-false}
+use Rattle.basics.proofs.Tests.{by-equal, choice-true, choice-false}
 use borrow.Author.Tests.{eq-eqb, ne-eqb}
 use Rattle.circuit.specs.Gates.{gatesOf}
 use Rattle.circuit.specs.Sound.{Sound}
 use Rattle.circuit.specs.declared.Gate.{Gate}
-use Rattle.simulator.specs.declared.Fault.{Fault}
-use Rattle.simulator.proofs.ClassLaws.{stuck-fault, names-gate, no-value, names-line}
-use Rattle.judge.specs.Classes.{classFaults}
-use Rattle.judge.specs.Coverages.{emptyCoverage, marked, markAll, levelMarks, gateMarks, levelMarked, gateMarked, isMarked, withVector, withAll}
+use Rattle.faults.specs.declared.Fault.{Fault}
+use Rattle.faults.proofs.ClassLaws.{stuck-fault, names-gate, no-value, names-line}
+use Rattle.faults.specs.Classes.{classFaults}
+use Rattle.judge.specs.Coverages.{emptyCoverage, isMarked, withVector, withAll}
+use Rattle.marking.specs.Marks.{marked, markAll, levelMarks, gateMarks, levelMarked, gateMarked}
 use Rattle.judge.specs.Judging.{caughtBySome, verdict}
 use Rattle.judge.specs.declared.coverage.Coverage.{Coverage}
-use Rattle.judge.proofs.ClassLists.{OfClass, class-faults-are}
+use Rattle.faults.proofs.ClassLists.{OfClass, class-faults-are}
 use Rattle.judge.proofs.CoverLaws.{with-all-stuck-0, with-all-stuck-1, with-all-gates, with-all-controls, with-all-extras}
 use Rattle.judge.proofs.MeanLaws.{HasMark, mark-mean-empty}
 use Rattle.judge.proofs.MeanLaws.HasMark.{at-level, at-gate}
@@ -77,23 +78,23 @@ empty-agrees n words xs class ok lo hi =
 
 level-is : (c : Coverage) (f : Fault) → f .class ≡ 1 → isMarked c f ≡ levelMarked (c .«stuck_at_0») (c .«stuck_at_1») f
 unfolding isMarked
-level-is c f e = pick-true (eq-eqb (f .class) 1 e) _ _
+level-is c f e = choice-true (eq-eqb (f .class) 1 e) _ _
 
 gates-is : (c : Coverage) (f : Fault) → f .class ≡ 2 → isMarked c f ≡ gateMarked (c .«missing_gates») f
 unfolding isMarked
-gates-is c f e = pick-false (ne-eqb (f .class) 1 (λ q. omega arith)) _ _ ∙ pick-true (eq-eqb (f .class) 2 e) _ _
+gates-is c f e = choice-false (ne-eqb (f .class) 1 (λ q. omega arith)) _ _ ∙ choice-true (eq-eqb (f .class) 2 e) _ _
 
 controls-is : (c : Coverage) (f : Fault) → f .class ≡ 3 → isMarked c f ≡ gateMarked (c .«missing_controls») f
 unfolding isMarked
 controls-is c f e =
-    pick-false (ne-eqb (f .class) 1 (λ q. omega arith)) _ _ ∙ pick-false (ne-eqb (f .class) 2 (λ q. omega arith)) _ _
-    ∙ pick-true (eq-eqb (f .class) 3 e) _ _
+    choice-false (ne-eqb (f .class) 1 (λ q. omega arith)) _ _ ∙ choice-false (ne-eqb (f .class) 2 (λ q. omega arith)) _ _
+    ∙ choice-true (eq-eqb (f .class) 3 e) _ _
 
 extras-is : (c : Coverage) (f : Fault) → f .class ≡ 4 → isMarked c f ≡ gateMarked (c .«extra_controls») f
 unfolding isMarked
 extras-is c f e =
-    pick-false (ne-eqb (f .class) 1 (λ q. omega arith)) _ _ ∙ pick-false (ne-eqb (f .class) 2 (λ q. omega arith)) _ _
-    ∙ pick-false (ne-eqb (f .class) 3 (λ q. omega arith)) _ _
+    choice-false (ne-eqb (f .class) 1 (λ q. omega arith)) _ _ ∙ choice-false (ne-eqb (f .class) 2 (λ q. omega arith)) _ _
+    ∙ choice-false (ne-eqb (f .class) 3 (λ q. omega arith)) _ _
 
 module _ (n : ℕ) (gs : List Gate) (c : Coverage) where
   -- the verdict on a coverage for a class is that on the class's words

@@ -11,12 +11,13 @@ use Rattle.refusals.specs.Tables.Told.{answered}
 use Rattle.circuit.specs.Gates.{gatesOf}
 use Rattle.circuit.specs.Sound.{AllOk, Sound}
 use Rattle.circuit.specs.declared.Gate.{Gate}
-use Rattle.simulator.specs.Faults.{caught}
-use Rattle.simulator.specs.declared.Fault.{Fault}
-use Rattle.judge.specs.Classes.{classFaults, missingControls, extraControls}
+use Rattle.simulator.specs.Faulty.{caught}
+use Rattle.faults.specs.declared.Fault.{Fault}
+use Rattle.faults.specs.Classes.{classFaults, missingControls, extraControls}
 use Rattle.judge.specs.Coverages.{emptyCoverage, withAll, isMarked}
-use Rattle.judge.specs.Judging.{caughtBySome, caughtOf, left, firstTold, verdict}
-use Rattle.judge.proofs.ClassCounts.{length-controls}
+use Rattle.judge.specs.Judging.{caughtBySome, caughtOf, left, verdict}
+use Rattle.marking.specs.Firsts.{firstTold}
+use Rattle.faults.proofs.ClassCounts.{length-controls}
 use Rattle.judge.proofs.SetLaws.{judge-is-coverage}
 use Rattle.judge.proofs.Verdicts.{SameVectors, complete-iff, first-left, verdict-parts, caught-of-same, left-same}
 

@@ -12,8 +12,8 @@ use Rattle.basics.proofs.All.{all-map}
 use Rattle.basics.proofs.Lists.{keep-parts, keep-cong, keep-none, none-kept, some-entry, entry-some}
 use Rattle.basics.proofs.ListMore.{some-append, some-same, first-kept}
 use Rattle.circuit.specs.declared.Gate.{Gate}
-use Rattle.simulator.specs.Faults.{caught}
-use Rattle.simulator.specs.declared.Fault.{Fault}
+use Rattle.simulator.specs.Faulty.{caught}
+use Rattle.faults.specs.declared.Fault.{Fault}
 use Rattle.judge.specs.Judging.{caughtBySome, caughtOf, left}
 
 -- two sets that have the same vectors, in any order and any number of times

@@ -1,14 +1,15 @@
 -- Judging a set: which faults of a list some vector of it catches, and which none does.
 use Prim.Native.Nat.{ℕ}
 use mathlib.Core.Bool.{Bool, not}
-use mathlib.Core.List.{List, [], _∷_}
+use mathlib.Core.List.{List, _∷_}
 use lib.ListN.{length}
 use Rattle.basics.specs.Lists.{keep, some}
 use Rattle.refusals.specs.Tables.{Told}
 use Rattle.refusals.specs.Tables.Told.{answered}
 use Rattle.circuit.specs.declared.Gate.{Gate}
-use Rattle.simulator.specs.Faults.{caught}
-use Rattle.simulator.specs.declared.Fault.{Fault}
+use Rattle.simulator.specs.Faulty.{caught}
+use Rattle.marking.specs.Firsts.{firstTold}
+use Rattle.faults.specs.declared.Fault.{Fault}
 
 -- some vector of the set catches the fault
 unfoldable pub caughtBySome : List Gate → List ℕ → Fault → Bool
@@ -23,9 +24,5 @@ left gs xs fs = keep (λ f. not (caughtBySome gs xs f)) fs
 
 -- the verdict on a list of faults of which a test says which are caught: the number caught, the number in all,
 -- and 1 for complete with four zeros, or 0 with the class, place, line and value of the first uncaught fault
-abbrev pub firstTold : List Fault → List ℕ
-firstTold [] = 1 ∷ 0 ∷ 0 ∷ 0 ∷ 0 ∷ []
-firstTold (f ∷ rest) = 0 ∷ f .class ∷ f .place ∷ f .line ∷ f .value ∷ []
-
 unfoldable pub verdict : (Fault → Bool) → List Fault → Told
 verdict isCaught fs = answered (length (keep isCaught fs) ∷ length fs ∷ firstTold (keep (λ f. not (isCaught f)) fs))

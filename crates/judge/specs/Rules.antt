@@ -5,7 +5,7 @@ use mathlib.Core.List.{List, [], _∷_, _++_}
 use Rattle.refusals.specs.Tables.{Row}
 use Rattle.refusals.specs.Tables.Row.{refuse_at_when_}
 use Rattle.circuit.specs.Rules.{circuitRows, setRows}
-use Rattle.judge.specs.Classes.{isClass}
+use Rattle.faults.specs.Classes.{isClass}
 
 -- a class that is asked alone
 unfoldable pub classRows : ℕ → List Row

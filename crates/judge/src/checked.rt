@@ -4,13 +4,13 @@ ghost use Prim.Native.Nat.{_^_, _<_, _≤_};
 ghost use Rattle.basics.specs.Lists.{All};
 ghost use Rattle.circuit.specs.Gates.{gatesOf};
 ghost use Rattle.circuit.specs.Sound.{Sound};
-ghost use Rattle.judge.specs.Classes.{stuckFaults, classFaults};
-ghost use Rattle.judge.specs.Coverages.{markAll, levelMarks, gateMarks};
+ghost use Rattle.faults.specs.Classes.{stuckFaults, classFaults};
+ghost use Rattle.marking.specs.Marks.{markAll, levelMarks, gateMarks};
 ghost use Rattle.judge.specs.Judging.{caughtBySome, verdict};
 ghost use Rattle.judge.specs.Answers.{toldVerdict};
 use crate::Verdict;
-use crate::marks;
 use crate::tallies;
+use marking::marks;
 
 // The marks of a set's vectors, level by level.
 fn mark_set_levels(

@@ -7,16 +7,16 @@ ghost use Rattle.refusals.specs.Checks.{fine};
 ghost use Rattle.circuit.specs.Gates.{gatesOf};
 ghost use Rattle.circuit.specs.Rules.{circuitRows, vectorRows};
 ghost use Rattle.circuit.specs.Sound.{Sound};
-ghost use Rattle.judge.specs.Classes.{classFaults};
+ghost use Rattle.faults.specs.Classes.{classFaults};
 ghost use Rattle.judge.specs.Coverages.{emptyCoverage, withVector, isMarked};
 ghost use Rattle.judge.specs.Judging.{verdict};
 ghost use Rattle.judge.specs.Rules.{countRows};
 ghost use Rattle.judge.specs.Answers.{toldVerdict, toldBeside};
 use crate::Verdict;
-use crate::marks;
 use crate::rules;
 use crate::tallies;
 use circuit::rules::check_vector;
+use marking::marks;
 use refusals::Checked;
 use refusals::Refusal;
 

@@ -7,7 +7,7 @@ ghost use Rattle.refusals.specs.Tables.{firstOf};
 ghost use Rattle.refusals.specs.Checks.{fine};
 ghost use Rattle.circuit.specs.Gates.{gatesOf};
 ghost use Rattle.circuit.specs.Rules.{circuitRows, vectorRows};
-ghost use Rattle.judge.specs.Classes.{classFaults};
+ghost use Rattle.faults.specs.Classes.{classFaults};
 ghost use Rattle.judge.specs.Coverages.{emptyCoverage, withVector, withAll};
 ghost use Rattle.judge.specs.Judging.{caughtBySome, verdict};
 ghost use Rattle.judge.specs.Rules.{judgeRows};

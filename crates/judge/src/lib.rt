@@ -2,18 +2,17 @@
 ghost use mathlib.Core.Path.{_≡_};
 ghost use Rattle.refusals.specs.Tables.{firstOf};
 ghost use Rattle.circuit.specs.Gates.{gatesOf};
-ghost use Rattle.judge.specs.Classes.{classFaults};
+ghost use Rattle.faults.specs.Classes.{classFaults};
 ghost use Rattle.judge.specs.Judging.{caughtBySome, verdict};
 ghost use Rattle.judge.specs.Rules.{judgeRows};
 ghost use Rattle.judge.specs.Answers.{toldVerdict};
+use faults::Fault;
 use refusals::Checked;
 use refusals::Refusal;
-use simulator::Fault;
 
 pub mod checked;
 pub mod coverage;
 pub mod covering;
-mod marks;
 mod rules;
 mod tallies;
 
@@ -29,12 +28,6 @@ pub enum Verdict {
         first: Fault,
     },
     Refused(Refusal),
-}
-
-// The first uncaught fault of a class, if there is one.
-pub enum First {
-    None,
-    Uncaught(Fault),
 }
 
 // Judges a set for a class: how many of its faults some vector catches, how many there are, and the first that none catches.

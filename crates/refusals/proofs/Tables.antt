@@ -4,7 +4,7 @@ use mathlib.Core.Path.{_≡_, refl, sym, _∙_}
 use mathlib.Core.Bool.{Bool, true, false}
 use mathlib.Core.List.{List, [], _∷_, _++_}
 use native.Mathlib.Omega.{arith}
-use Rattle.basics.specs.Choice.{pick}
+use Rattle.basics.specs.Choice.{choice}
 use Rattle.refusals.specs.Tables.{Row, Told, firstOf, after}
 use Rattle.refusals.specs.Tables.Row.{refuse_at_when_}
 use Rattle.refusals.specs.Tables.Told.{answered, refused}
@@ -55,7 +55,7 @@ fine-parts (refuse n at q when true ∷ rows) more e = absurd (clash (sym e))
 fine-parts (refuse n at q when false ∷ rows) more e = fine-parts rows more e
 
 -- the first rule of such a table, and the rest
-pub fine-row : (broken : Bool) (k p : ℕ) (rest : Told) → fine ≡ pick broken (refused k p) rest → (broken ≡ false) × (fine ≡ rest)
+pub fine-row : (broken : Bool) (k p : ℕ) (rest : Told) → fine ≡ choice broken (refused k p) rest → (broken ≡ false) × (fine ≡ rest)
 fine-row true k p rest e = absurd (clash (sym e))
 fine-row false k p rest e = (refl, e)
 

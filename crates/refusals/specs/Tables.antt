@@ -2,7 +2,7 @@
 use Prim.Native.Nat.{ℕ}
 use mathlib.Core.Bool.{Bool}
 use mathlib.Core.List.{List, [], _∷_}
-use Rattle.basics.specs.Choice.{pick}
+use Rattle.basics.specs.Choice.{choice}
 
 infix 68 refuse_at_when_
 -- one rule: the refusal's number, its place, and when it is given
@@ -17,9 +17,9 @@ pub data Told : Type 0 where
 -- the first rule that is broken, and the answer where none is
 abbrev pub firstOf : List Row → Told → Told
 firstOf [] answer = answer
-firstOf (refuse number at place when broken ∷ rows) answer = pick broken (refused number place) (firstOf rows answer)
+firstOf (refuse number at place when broken ∷ rows) answer = choice broken (refused number place) (firstOf rows answer)
 
 -- what lent memory holds after a call: what the call makes of it where no rule is broken, and else what it held
 abbrev pub after {ℓ} : {A : Type ℓ} → List Row → A → A → A
 after [] made old = made
-after (refuse number at place when broken ∷ rows) made old = pick broken old (after rows made old)
+after (refuse number at place when broken ∷ rows) made old = choice broken old (after rows made old)

@@ -14,14 +14,15 @@ use Rattle.basics.proofs.Tests.{by-test}
 use Rattle.words.specs.Word.{bit}
 use Rattle.refusals.specs.Tables.Told.{answered}
 use Rattle.circuit.specs.declared.Gate.{Gate}
-use Rattle.simulator.specs.declared.Fault.{Fault}
-use Rattle.judge.specs.Classes.{classFaults}
-use Rattle.judge.specs.Judging.{caughtBySome, caughtOf, left, verdict, firstTold}
+use Rattle.faults.specs.declared.Fault.{Fault}
+use Rattle.faults.specs.Classes.{classFaults}
+use Rattle.judge.specs.Judging.{caughtBySome, caughtOf, left, verdict}
+use Rattle.marking.specs.Firsts.{firstTold}
 use Rattle.judge.specs.Answers.{toldVerdict}
 use Rattle.judge.specs.declared.Verdict.{Verdict}
 use Rattle.judge.specs.declared.Verdict.the-variants.{Complete, Left, Refused}
-use Rattle.job.proofs.ByteLaws.{sets-append}
-use Rattle.report_text.specs.Text.{field, line}
+use Rattle.basics.proofs.PutLaws.{sets-append}
+use Rattle.report_text.specs.Lines.{field, line}
 use Rattle.report_text.specs.Report.{letterOf, shown, firstText, classText, isWanted, wanted}
 use Rattle.report_text.specs.Parts.{okText, numbersLine, numbersOf, verdictText, wantedText}
 

@@ -15,18 +15,19 @@ use Rattle.basics.proofs.Tests.{by-test}
 use Rattle.circuit.specs.Gates.{gatesOf}
 use Rattle.circuit.specs.Sound.{Sound, AllOk}
 use Rattle.circuit.specs.declared.Gate.{Gate}
-use Rattle.simulator.specs.declared.Fault.{Fault}
-use Rattle.simulator.proofs.SiteLaws.{site-line}
-use Rattle.judge.specs.Classes.{faultOf, classFaults, missingControls, extraControls}
+use Rattle.faults.specs.declared.Fault.{Fault}
+use Rattle.faults.proofs.SiteLaws.{site-line}
+use Rattle.faults.specs.Classes.{faultOf, classFaults, missingControls, extraControls}
 use Rattle.judge.specs.Judging.{caughtBySome, caughtOf, left}
-use Rattle.judge.proofs.ClassLists.{list-one, list-two, list-three, list-four}
-use Rattle.judge.proofs.ClassParts.{all-stuck, all-missing-gates, all-missing-controls, all-extra-controls}
-use Rattle.judge.proofs.ClassCounts.{length-missing-gates, length-controls}
-use Rattle.judge.proofs.SiteCount.{length-stuck}
-use Rattle.report_text.specs.Text.{decimalIn, decimal, field, line}
+use Rattle.faults.proofs.ClassLists.{list-one, list-two, list-three, list-four}
+use Rattle.faults.proofs.ClassParts.{all-stuck, all-missing-gates, all-missing-controls, all-extra-controls}
+use Rattle.faults.proofs.ClassCounts.{length-missing-gates, length-controls}
+use Rattle.faults.proofs.SiteCount.{length-stuck}
+use Rattle.text.specs.Decimal.{decimalIn, decimal}
+use Rattle.report_text.specs.Lines.{field, line}
 use Rattle.report_text.specs.Report.{letterOf, shown, firstText, classText, isWanted, wanted, jobText, refusedText}
 use Rattle.report_text.specs.Parts.{wantedText}
-use Rattle.report_text.proofs.TextLaws.{enough, digits-most}
+use Rattle.text.proofs.TextLaws.{enough, digits-most}
 use Rattle.report_text.proofs.ClassLaws.{wanted-text}
 
 -- ---- fields

@@ -1,4 +1,4 @@
-pub mod TextLaws
+pub mod LineLaws
 pub mod ClassLaws
 pub mod LengthLaws
 pub mod ReportLaws

@@ -20,11 +20,12 @@ use Rattle.circuit.proofs.GateLaws.{gates-count}
 use Rattle.circuit.proofs.RuleLaws.{VectorsOk, vectors-ok, lines-right, sizes-right}
 use Rattle.job.specs.Image.{linesIn, classesIn, gatesIn, vectorsIn, gateWords, vectorWords}
 use Rattle.job.specs.Rules.{readRows, headerRows}
-use Rattle.job.proofs.ByteLaws.{length-words, sets-append, sets-front}
+use Rattle.basics.proofs.PutLaws.{sets-append, sets-front}
+use Rattle.job.proofs.ByteLaws.{length-words}
 use Rattle.job.proofs.ImageLaws.{gates-front, vectors-front}
 use Rattle.job.specs.Parts.{contentRowsIn, badRoom}
 use Rattle.job.proofs.RuleLaws.{read-ok, header-ok}
-use Rattle.report_text.specs.Text.{field, line}
+use Rattle.report_text.specs.Lines.{field, line}
 use Rattle.report_text.specs.Report.{classText, wanted, jobText, refusedText, textOf, reportText}
 use Rattle.report_text.specs.Rules.{reportRows}
 use Rattle.report_text.specs.Parts.{okText, numbersLine}

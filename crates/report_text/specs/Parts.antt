@@ -3,23 +3,23 @@ use Prim.Native.Nat.{ℕ}
 use mathlib.Core.Bool.{Bool, true, false}
 use mathlib.Core.List.{List, [], _∷_, _++_}
 use lib.Dec.{eqb}
-use Rattle.basics.specs.Choice.{pick}
+use Rattle.basics.specs.Choice.{choice}
 use Rattle.basics.specs.Lists.{each}
 use Rattle.circuit.specs.declared.Gate.{Gate}
 use Rattle.judge.specs.declared.Verdict.{Verdict}
 use Rattle.judge.specs.declared.Verdict.the-variants.{Complete, Left, Refused}
-use Rattle.report_text.specs.Text.{field, line}
+use Rattle.report_text.specs.Lines.{field, line}
 use Rattle.report_text.specs.Report.{letterOf, shown, classText, isWanted}
 
 unfoldable pub okText : Bool → List ℕ
-okText ok = pick ok (32 ∷ 111 ∷ 107 ∷ []) []
+okText ok = choice ok (32 ∷ 111 ∷ 107 ∷ []) []
 
 unfoldable pub numbersLine : ℕ → List ℕ → Bool → List ℕ
 numbersLine letter numbers ok = line letter (each field numbers ++ okText ok)
 
 -- the number caught, the number in the class, and what is shown of a fault
 unfoldable pub numbersOf : ℕ → ℕ
-numbersOf class = pick (eqb class 1) 5 (pick (eqb class 2) 3 4)
+numbersOf class = choice (eqb class 1) 5 (choice (eqb class 2) 3 4)
 
 abbrev pub verdictText : ℕ → Verdict → List ℕ
 verdictText class (Complete caught total) = numbersLine (letterOf class) (caught ∷ total ∷ []) true
@@ -27,4 +27,4 @@ verdictText class (Left caught total f) = numbersLine (letterOf class) (caught �
 verdictText class (Refused r) = []
 
 unfoldable pub wantedText : ℕ → List Gate → List ℕ → ℕ → ℕ → List ℕ
-wantedText n gs xs classes class = pick (isWanted classes class) (classText n gs xs class) []
+wantedText n gs xs classes class = choice (isWanted classes class) (classText n gs xs class) []

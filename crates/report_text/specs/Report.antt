@@ -4,7 +4,7 @@ use mathlib.Core.Bool.{Bool}
 use mathlib.Core.List.{List, [], _∷_, _++_}
 use lib.ListN.{length}
 use lib.Dec.{eqb}
-use Rattle.basics.specs.Choice.{pick}
+use Rattle.basics.specs.Choice.{choice}
 use Rattle.basics.specs.Lists.{upFrom, keep, each}
 use Rattle.words.specs.Word.{bit}
 use Rattle.refusals.specs.Tables.{Told, firstOf}
@@ -12,22 +12,22 @@ use Rattle.refusals.specs.Tables.Told.{answered, refused}
 use Rattle.refusals.specs.Checks.{fine}
 use Rattle.circuit.specs.Gates.{gatesOf}
 use Rattle.circuit.specs.declared.Gate.{Gate}
-use Rattle.simulator.specs.declared.Fault.{Fault}
-use Rattle.judge.specs.Classes.{classFaults}
+use Rattle.faults.specs.declared.Fault.{Fault}
+use Rattle.faults.specs.Classes.{classFaults}
 use Rattle.judge.specs.Judging.{caughtOf, left}
 use Rattle.job.specs.Image.{linesIn, classesIn, gateWords, vectorWords}
 use Rattle.job.specs.Rules.{readRows}
-use Rattle.report_text.specs.Text.{field, line}
+use Rattle.report_text.specs.Lines.{field, line}
 
 -- the letters of the classes: S, M, C, X
 unfoldable pub letterOf : ℕ → ℕ
-letterOf class = pick (eqb class 1) 83 (pick (eqb class 2) 77 (pick (eqb class 3) 67 88))
+letterOf class = choice (eqb class 1) 83 (choice (eqb class 2) 77 (choice (eqb class 3) 67 88))
 
 -- what is shown of a fault, S: level, line, value; M: gate; C and X: gate, line
 unfoldable pub shown : ℕ → Fault → List ℕ
 shown class f =
-    pick (eqb class 1) (f .place ∷ f .line ∷ f .value ∷ [])
-    (pick (eqb class 2) (f .place ∷ [])
+    choice (eqb class 1) (f .place ∷ f .line ∷ f .value ∷ [])
+    (choice (eqb class 2) (f .place ∷ [])
     (f .place ∷ f .line ∷ []))
 
 -- a blank and ok where no fault is left uncaught, and else the first that is

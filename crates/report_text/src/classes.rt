@@ -8,10 +8,10 @@ ghost use Rattle.circuit.specs.Gates.{gatesOf};
 ghost use Rattle.circuit.specs.Sound.{Sound};
 ghost use Rattle.report_text.specs.Report.{letterOf, classText, wanted};
 ghost use Rattle.report_text.specs.Parts.{numbersOf, verdictText, wantedText};
-use crate::text::put_line;
+use crate::lines::put_line;
+use faults::Fault;
 use judge::Verdict;
 use judge::checked::judge_class;
-use simulator::Fault;
 use words::checked::value;
 
 // The letter of a class.

@@ -12,13 +12,13 @@ ghost use Rattle.report_text.specs.Report.{reportText, refusedText, jobT
 ghost use Rattle.report_text.specs.Rules.{reportRows};
 ghost use Rattle.report_text.specs.Answers.{toldReported};
 use crate::classes::put_classes;
-use crate::text::put_bytes;
-use crate::text::put_line;
+use crate::lines::put_line;
 use job::Read;
 use refusals::Refusal;
+use text::put_bytes;
 
 mod classes;
-mod text;
+mod lines;
 
 // The number of bytes of the text.
 pub enum Reported {

@@ -15,10 +15,10 @@ use Rattle.circuit.specs.Runs.{fires, run, forward}
 use Rattle.circuit.specs.Sound.{AllOk}
 use Rattle.circuit.specs.declared.Gate.{Gate}
 use Rattle.circuit.proofs.ControlLaws.{fires-iff, less-fires-iff}
-use Rattle.simulator.specs.Faults.{faulty, caught}
-use Rattle.simulator.specs.Entries.{StuckOk}
-use Rattle.simulator.specs.declared.Fault.{Fault}
-use Rattle.simulator.proofs.FaultLaws.{caught-iff, stuck-caught, missing-gate-caught, missing-control-caught, extra-control-caught}
+use Rattle.simulator.specs.Faulty.{faulty, caught}
+use Rattle.faults.specs.Entries.{StuckOk}
+use Rattle.faults.specs.declared.Fault.{Fault}
+use Rattle.simulator.proofs.FaultyLaws.{caught-iff, stuck-caught, missing-gate-caught, missing-control-caught, extra-control-caught}
 
 -- the outputs differ where a test passes that is equal to `caught`
 differ-iff : (gs : List Gate) (f : Fault) (x : ℕ) {Q : Type 0} (b : Bool) → caught gs f x ≡ b → (b ≡ true) ↔ Q → (faulty gs f x ≢ run gs x) ↔ Q

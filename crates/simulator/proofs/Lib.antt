@@ -1,10 +1,7 @@
-pub mod FaultLaws
+pub mod FaultyLaws
 pub mod CatchLaws
-pub mod SiteLaws
-pub mod RecordLaws
 pub mod RuleLaws
 pub mod StuckLaws
 pub mod TestLaws
-pub mod ClassLaws
 pub mod AnswerLaws
 pub mod UnchangedLaws

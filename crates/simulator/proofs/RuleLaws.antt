@@ -1,156 +1,21 @@
--- Laws of the rules of faults: what a fault that breaks none is, class by class.
-use Prim.Native.Nat.{ℕ, _/_, _%_, _≤_, _<_}
-use mathlib.Core.Path.{_≡_, sym, ap, _∙_}
-use mathlib.Core.Logic.{_≢_}
-use mathlib.Core.Bool.{Bool, true, false, not, true≢false}
-use mathlib.Core.List.{List, [], _∷_, _++_}
-use native.Mathlib.Omega.{arith}
-use lib.ListN.{length}
-use lib.Dec.{eqb, ltb, leb}
-use borrow.Author.Tests.{ltb-true, leb-true, eqb-true, eq-eqb, ne-eqb, lt-ltb, le-ltb, le-leb, lt-leb, not-true, not-false}
-use Rattle.basics.proofs.Tests.{by-test, not-not, and-both, pick-true, pick-false}
-use Rattle.basics.proofs.All.{all-map}
-use Rattle.words.specs.Word.{bit}
+-- What a vector and a fault, and a multiple fault, that break no rule are.
+use Prim.Native.Nat.{ℕ}
+use mathlib.Core.Path.{_≡_}
+use mathlib.Core.Bool.{true}
+use mathlib.Core.List.{List, _++_}
 use Rattle.refusals.specs.Tables.{firstOf}
-use Rattle.refusals.specs.Tables.Row.{refuse_at_when_}
-use Rattle.refusals.specs.Tables.Told.{refused}
 use Rattle.refusals.specs.Checks.{fine}
-use Rattle.refusals.specs.Places.{inWord}
-use Rattle.refusals.proofs.Tables.{fine-row, fine-parts}
-use Rattle.refusals.proofs.Places.{none-bad, none-left}
-use Rattle.circuit.specs.Gates.{gatesOf, gateAt}
-use Rattle.circuit.specs.Controls.{isControl}
+use Rattle.refusals.proofs.Tables.{fine-parts}
+use Rattle.circuit.specs.Gates.{gatesOf}
 use Rattle.circuit.specs.Rules.{circuitRows, vectorRows}
 use Rattle.circuit.specs.Sound.{Sound}
-use Rattle.circuit.specs.declared.Gate.{Gate}
 use Rattle.circuit.proofs.RuleLaws.{sound, VectorOk, vector-ok}
-use Rattle.simulator.specs.Sites.{sites}
-use Rattle.simulator.specs.Rules.{isStuckAt, isGate, isMissingGate, isMissingControl, isExtraControl, isFault, faultRows, catchRows, testRows}
-use Rattle.simulator.specs.Rules.{faultsOf, firstBadRecord}
-use Rattle.simulator.specs.Multiple.{badEntry, siteTwice, entriesRows, multipleRows}
-use Rattle.simulator.specs.Entries.{StuckOk, Entries}
-use Rattle.simulator.specs.declared.Fault.{Fault}
-use Rattle.simulator.proofs.SiteLaws.{site-line}
-use Rattle.simulator.proofs.RecordLaws.{records-count}
-
-module _ (n : ℕ) (gs : List Gate) (f : Fault) where
-  -- ---- the class decides which fields are asked
-
-  pub class-one : f .class ≡ 1 → isFault n gs f ≡ isStuckAt n gs f
-  unfolding isFault
-  class-one e = pick-true (eq-eqb (f .class) 1 e) _ _
-
-  pub class-two : f .class ≡ 2 → isFault n gs f ≡ isMissingGate gs f
-  unfolding isFault
-  class-two e = pick-false (ne-eqb (f .class) 1 (λ q. omega arith)) _ _ ∙ pick-true (eq-eqb (f .class) 2 e) _ _
-
-  pub class-three : f .class ≡ 3 → isFault n gs f ≡ isMissingControl gs f
-  unfolding isFault
-  class-three e =
-      pick-false (ne-eqb (f .class) 1 (λ q. omega arith)) _ _ ∙ pick-false (ne-eqb (f .class) 2 (λ q. omega arith)) _ _
-      ∙ pick-true (eq-eqb (f .class) 3 e) _ _
-
-  pub class-four : f .class ≡ 4 → isFault n gs f ≡ isExtraControl n gs f
-  unfolding isFault
-  class-four e =
-      pick-false (ne-eqb (f .class) 1 (λ q. omega arith)) _ _ ∙ pick-false (ne-eqb (f .class) 2 (λ q. omega arith)) _ _
-      ∙ pick-false (ne-eqb (f .class) 3 (λ q. omega arith)) _ _ ∙ pick-true (eq-eqb (f .class) 4 e) _ _
-
-  pub class-none : f .class ≢ 1 → f .class ≢ 2 → f .class ≢ 3 → f .class ≢ 4 → isFault n gs f ≡ false
-  unfolding isFault
-  class-none a b c d =
-      pick-false (ne-eqb (f .class) 1 a) _ _ ∙ pick-false (ne-eqb (f .class) 2 b) _ _
-      ∙ pick-false (ne-eqb (f .class) 3 c) _ _ ∙ pick-false (ne-eqb (f .class) 4 d) _ _
-
-  -- a fault that is of none of the first three is of the fourth
-  pub class-last : isFault n gs f ≡ true → f .class ≢ 1 → f .class ≢ 2 → f .class ≢ 3 → f .class ≡ 4
-  class-last t a b c = by-test (eqb (f .class) 4) (eqb-true (f .class) 4)
-      (λ e. absurd (true≢false (sym t ∙ class-none a b c (λ q. true≢false (sym (eq-eqb (f .class) 4 q) ∙ e)))))
-
-  -- ---- gates are numbered from 1 to the last
-
-  pub gate-zero : f .place ≡ 0 → isGate gs (f .place) ≡ false
-  unfolding isGate
-  gate-zero e = rw (lt-leb 1 (f .place) (omega arith))
-
-  pub gate-far : length gs < f .place → isGate gs (f .place) ≡ false
-  unfolding isGate
-  gate-far h = rw (le-leb 1 (f .place) (omega arith), lt-leb (f .place) (length gs) h)
-
-  pub gate-there : f .place ≢ 0 → f .place ≤ length gs → isGate gs (f .place) ≡ true
-  unfolding isGate
-  gate-there d h = rw (le-leb 1 (f .place) (omega arith), le-leb (f .place) (length gs) h)
-
-  -- ---- what the fields of a fault are
-
-  pub stuck-at-ok : f .class ≡ 1 → isStuckAt n gs f ≡ true → StuckOk n (length gs) f
-  unfolding isStuckAt
-  stuck-at-ok e t =
-      let w = and-both (leb (f .place) (length gs)) _ t in
-      let v = and-both (eqb (bit (sites n gs (f .place)) (f .line)) 1) (leb (f .value) 1) (w .1) in
-      record { class-is = e; place-in = leb-true _ _ (w .0); line-in = site-line n gs (f .place) (f .line) (v .0); value-in = leb-true _ _ (v .1) }
-
-  gate-in : isGate gs (f .place) ≡ true → (1 ≤ f .place) × (f .place ≤ length gs)
-  unfolding isGate
-  gate-in t = let w = and-both (leb 1 (f .place)) (leb (f .place) (length gs)) t in (leb-true _ _ (w .0), leb-true _ _ (w .1))
-
-  pub missing-gate-ok : isMissingGate gs f ≡ true → (1 ≤ f .place) × (f .place ≤ length gs) × (f .line ≡ 0)
-  unfolding isMissingGate
-  missing-gate-ok t =
-      let w = and-both (isGate gs (f .place)) _ t in
-      let p = gate-in (w .0) in
-      (p .0, p .1, eqb-true (f .line) 0 (and-both (eqb (f .line) 0) (eqb (f .value) 0) (w .1) .0))
-
-  pub missing-control-ok : isMissingControl gs f ≡ true
-      → (1 ≤ f .place) × (f .place ≤ length gs) × (isControl (gateAt gs (f .place)) (f .line) ≡ true)
-  unfolding isMissingControl
-  missing-control-ok t =
-      let w = and-both (isGate gs (f .place)) _ t in
-      let p = gate-in (w .0) in
-      (p .0, p .1, and-both (isControl (gateAt gs (f .place)) (f .line)) (eqb (f .value) 0) (w .1) .0)
-
-  pub extra-control-ok : isExtraControl n gs f ≡ true
-      → (1 ≤ f .place) × (f .place ≤ length gs) × (f .line < n) × (isControl (gateAt gs (f .place)) (f .line) ≡ false)
-  unfolding isExtraControl
-  extra-control-ok t =
-      let w = and-both (isGate gs (f .place)) _ t in
-      let p = gate-in (w .0) in
-      let v = and-both (ltb (f .line) n) _ (w .1) in
-      (p .0, p .1, ltb-true _ _ (v .0), not-true _ (and-both (not (isControl (gateAt gs (f .place)) (f .line))) _ (v .1) .0))
-
-  -- the value of a gate fault is 0
-  pub missing-gate-value : isMissingGate gs f ≡ true → f .value ≡ 0
-  unfolding isMissingGate
-  missing-gate-value t = eqb-true (f .value) 0 (and-both (eqb (f .line) 0) _ (and-both (isGate gs (f .place)) _ t .1) .1)
-
-  pub missing-control-value : isMissingControl gs f ≡ true → f .value ≡ 0
-  unfolding isMissingControl
-  missing-control-value t =
-      eqb-true (f .value) 0 (and-both (isControl (gateAt gs (f .place)) (f .line)) _ (and-both (isGate gs (f .place)) _ t .1) .1)
-
-  pub extra-control-value : isExtraControl n gs f ≡ true → f .value ≡ 0
-  unfolding isExtraControl
-  extra-control-value t =
-      let w = and-both (ltb (f .line) n) _ (and-both (isGate gs (f .place)) _ t .1) in
-      let v = and-both (not (isControl (gateAt gs (f .place)) (f .line))) _ (w .1) in
-      eqb-true (f .value) 0 (and-both (not (eqb (f .line) (gateAt gs (f .place) .target))) _ (v .1) .1)
-
--- ---- rule 9 by the test of the class
-
-pub nine : (n : ℕ) (words : List ℕ) (f : Fault) (holds : Bool) → holds ≡ isFault n (gatesOf words) f
-    → firstOf (refuse 9 at 1 when not holds ∷ []) fine ≡ firstOf (faultRows n words f) fine
-unfolding faultRows
-nine n words f holds e = ap (λ b. firstOf (refuse 9 at 1 when not b ∷ []) fine) e
-
-pub nine-none : (n : ℕ) (words : List ℕ) (f : Fault) → isFault n (gatesOf words) f ≡ false → refused 9 1 ≡ firstOf (faultRows n words f) fine
-unfolding faultRows
-nine-none n words f e = rw e
-
--- ---- calls whose rules none is broken
-
-pub fault-ok : (n : ℕ) (words : List ℕ) (f : Fault) → fine ≡ firstOf (faultRows n words f) fine → isFault n (gatesOf words) f ≡ true
-unfolding faultRows
-fault-ok n words f e = not-false _ (fine-row (not (isFault n (gatesOf words) f)) 9 1 fine e .0)
+use Rattle.faults.specs.Rules.{isFault, faultRows}
+use Rattle.faults.specs.Multiple.{entriesRows}
+use Rattle.faults.specs.Entries.{Entries}
+use Rattle.faults.specs.declared.Fault.{Fault}
+use Rattle.faults.proofs.RuleLaws.{fault-ok, entries-ok}
+use Rattle.simulator.specs.Rules.{catchRows, testRows, multipleRows}
 
 pub record CatchOk (n : ℕ) (words : List ℕ) (x : ℕ) (f : Fault) : Type 0 where
   pub vector : VectorOk n words x
@@ -172,64 +37,12 @@ test-ok n words f e =
     let w = fine-parts (circuitRows n words) (faultRows n words f) e in
     record { circuit = sound n words (w .0); fault = fault-ok n words f (w .1) }
 
--- ---- a multiple fault
-
-good-entry : (n : ℕ) (gs : List Gate) (f : Fault) → badEntry n gs f ≡ false → StuckOk n (length gs) f
-unfolding badEntry
-good-entry n gs f e =
-    let w = and-both (eqb (f .class) 1) (isStuckAt n gs f) (not-false _ e) in
-    stuck-at-ok n gs f (eqb-true (f .class) 1 (w .0)) (w .1)
-
-entries-good : (n : ℕ) (gs : List Gate) (list : List ℕ) → firstBadRecord (badEntry n gs) list ≡ 0 → Entries n gs list
-unfolding firstBadRecord
-entries-good n gs list e =
-    let bad = not (eqb (length list % 4) 0) in
-    let z = eqb-true (length list % 4) 0 (not-false (eqb (length list % 4) 0) (none-left (badEntry n gs) bad (faultsOf list) 0 e)) in
-    record {
-      whole = omega (arith, records-count list);
-      entries-ok = all-map (good-entry n gs) (faultsOf list) (none-bad (badEntry n gs) bad (faultsOf list) 0 e);
-    }
-
 pub record MultipleOk (n : ℕ) (words : List ℕ) (x : ℕ) (list : List ℕ) : Type 0 where
   pub vector : VectorOk n words x
   pub entries : Entries n (gatesOf words) list
 
 pub multiple-ok : (n : ℕ) (words : List ℕ) (x : ℕ) (list : List ℕ) → fine ≡ firstOf (multipleRows n words x list) fine → MultipleOk n words x list
-unfolding multipleRows entriesRows
+unfolding multipleRows
 multiple-ok n words x list e =
     let w = fine-parts (circuitRows n words ++ vectorRows n x) (entriesRows n words list) e in
-    let bad = firstBadRecord (badEntry n (gatesOf words)) list in
-    let none = eqb-true bad 0 (not-false (eqb bad 0) (fine-row (not (eqb bad 0)) 9 (inWord bad) _ (w .1) .0)) in
-    record { vector = vector-ok n words x (w .0); entries = entries-good n (gatesOf words) list none }
-
--- which test of the entries breaks which rule
-module _ (n : ℕ) (words list : List ℕ) where
-  pub entries-bad : (bad : ℕ) → bad ≡ firstBadRecord (badEntry n (gatesOf words)) list → bad ≢ 0
-      → refused 9 (inWord bad) ≡ firstOf (entriesRows n words list) fine
-  unfolding entriesRows
-  entries-bad bad e d = rw (← e, ne-eqb bad 0 d)
-
-  module _ (bad : ℕ) (is : bad ≡ firstBadRecord (badEntry n (gatesOf words)) list) (none : bad ≡ 0) where
-    pub entries-none : length list / 4 ≡ 0 → refused 13 0 ≡ firstOf (entriesRows n words list) fine
-    unfolding entriesRows
-    entries-none e = rw (← is, eq-eqb bad 0 none, eq-eqb (length (faultsOf list)) 0 (records-count list ∙ e))
-
-    pub entries-many : length list / 4 ≢ 0 → 256 < length list / 4 → refused 13 0 ≡ firstOf (entriesRows n words list) fine
-    unfolding entriesRows
-    entries-many d h =
-        let number = records-count list in
-        rw (← is, eq-eqb bad 0 none, ne-eqb (length (faultsOf list)) 0 (λ e. d (sym number ∙ e)), lt-ltb 256 (length (faultsOf list)) (omega arith))
-
-    pub entries-twice : (twice : Bool) → twice ≡ siteTwice (faultsOf list) → length list / 4 ≢ 0 → length list / 4 ≤ 256
-        → firstOf (refuse 13 at 0 when not (not twice) ∷ []) fine ≡ firstOf (entriesRows n words list) fine
-    unfolding entriesRows
-    entries-twice twice e d h =
-        let number = records-count list in
-        rw (
-          ← is,
-          eq-eqb bad 0 none,
-          ne-eqb (length (faultsOf list)) 0 (λ q. d (sym number ∙ q)),
-          le-ltb 256 (length (faultsOf list)) (omega arith),
-          ← e,
-          not-not twice,
-        )
+    record { vector = vector-ok n words x (w .0); entries = entries-ok n words list (w .1) }

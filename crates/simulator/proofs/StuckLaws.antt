@@ -7,7 +7,7 @@ use native.Mathlib.Omega.{arith}
 use lib.ListN.{length, getD, drop, drop-of-length-le}
 use lib.Seq.{drop-cons}
 use lib.Dec.{eqb}
-use Rattle.basics.specs.Choice.{pick}
+use Rattle.basics.specs.Choice.{choice}
 use Rattle.basics.proofs.All.{all-at}
 use Rattle.words.specs.Word.{force}
 use Rattle.circuit.specs.Gates.{gatesOf, noGate}
@@ -15,15 +15,15 @@ use Rattle.circuit.specs.Runs.{step, forward}
 use Rattle.circuit.specs.Sound.{Sound}
 use Rattle.circuit.specs.declared.Gate.{Gate}
 use Rattle.circuit.proofs.RunLaws.{onward-more, onward-forward}
-use Rattle.simulator.specs.Faults.{forceAt, stuckRun}
-use Rattle.simulator.specs.Rules.{faultsOf, noFault}
-use Rattle.simulator.specs.Entries.{StuckOk, Entries}
-use Rattle.simulator.specs.declared.Fault.{Fault}
+use Rattle.simulator.specs.Faulty.{forceAt, stuckRun}
+use Rattle.faults.specs.Records.{faultsOf, noFault}
+use Rattle.faults.specs.Entries.{StuckOk, Entries}
+use Rattle.faults.specs.declared.Fault.{Fault}
 
 -- one entry more, and the last
 pub force-more : (fs : List Fault) (i level s : ℕ) → i < length fs
     → forceAt (drop i fs) level s
-    ≡ forceAt (drop (i + 1) fs) level (pick (eqb (getD fs i noFault .place) level) (force s (getD fs i noFault .line) (getD fs i noFault .value)) s)
+    ≡ forceAt (drop (i + 1) fs) level (choice (eqb (getD fs i noFault .place) level) (force s (getD fs i noFault .line) (getD fs i noFault .value)) s)
 unfolding forceAt
 force-more fs i level s h = rw (add-one i, drop-cons fs i noFault h)
 

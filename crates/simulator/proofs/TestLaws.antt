@@ -7,7 +7,7 @@ use mathlib.Core.List.{List}
 use native.Mathlib.Omega.{arith}
 use lib.Dec.{eqb}
 use borrow.Author.Tests.{eq-eqb, ne-eqb}
-use Rattle.basics.proofs.Tests.{by-test, by-equal, and-true, pick-true, pick-false}
+use Rattle.basics.proofs.Tests.{by-test, by-equal, and-true, choice-true, choice-false}
 use Rattle.words.specs.Word.{bit, force, allOnes}
 use Rattle.words.proofs.Lines.{bit-force-same, force-lt}
 use Rattle.words.proofs.Masks.{bit-all-ones, all-ones-lt}
@@ -18,23 +18,23 @@ use Rattle.circuit.specs.Sound.{Sound}
 use Rattle.circuit.proofs.ControlLaws.{fires-ones, fires-but, less-fires-but}
 use Rattle.circuit.proofs.RuleLaws.{gate-ok}
 use Rattle.circuit.proofs.RunLaws.{forward-backward, backward-lt}
-use Rattle.simulator.specs.Faults.{caught}
-use Rattle.simulator.specs.Rules.{isFault}
+use Rattle.simulator.specs.Faulty.{caught}
+use Rattle.faults.specs.Rules.{isFault}
 use Rattle.simulator.specs.Tests.{testLevel, lineAtZero, testState, testFor}
-use Rattle.simulator.specs.declared.Fault.{Fault}
-use Rattle.simulator.proofs.FaultLaws.{stuck-caught, missing-gate-caught, missing-control-caught, extra-control-caught}
-use Rattle.simulator.proofs.RuleLaws.{class-last}
-use Rattle.simulator.proofs.ClassLaws.{stuck-fault, names-gate, names-line, is-missing, is-extra}
+use Rattle.faults.specs.declared.Fault.{Fault}
+use Rattle.simulator.proofs.FaultyLaws.{stuck-caught, missing-gate-caught, missing-control-caught, extra-control-caught}
+use Rattle.faults.proofs.RuleLaws.{class-last}
+use Rattle.faults.proofs.ClassLaws.{stuck-fault, names-gate, names-line, is-missing, is-extra}
 
 -- ---- the level and the state of each class
 
 pub level-stuck : (f : Fault) → f .class ≡ 1 → testLevel f ≡ f .place
 unfolding testLevel
-level-stuck f e = pick-true (eq-eqb (f .class) 1 e) _ _
+level-stuck f e = choice-true (eq-eqb (f .class) 1 e) _ _
 
 pub level-gate : (f : Fault) → f .class ≢ 1 → testLevel f ≡ f .place - 1
 unfolding testLevel
-level-gate f d = pick-false (ne-eqb (f .class) 1 d) _ _
+level-gate f d = choice-false (ne-eqb (f .class) 1 d) _ _
 
 module _ (n : ℕ) (f : Fault) where
   -- stuck-at-1, and stuck-at-0

@@ -15,10 +15,10 @@ use Rattle.circuit.specs.Sound.{AllOk}
 use Rattle.circuit.specs.declared.Gate.{Gate}
 use Rattle.circuit.proofs.RunLaws.{level-step}
 use Rattle.circuit.proofs.NoControlLaws.{less-same, more-same, control-off}
-use Rattle.simulator.specs.Faults.{faulty, caught}
-use Rattle.simulator.specs.declared.Fault.{Fault}
-use Rattle.simulator.proofs.FaultLaws.{caught-at, run-changed, faulty-missing-control, faulty-extra-control, missing-control-caught}
-use Rattle.simulator.proofs.FaultLaws.{extra-control-caught}
+use Rattle.simulator.specs.Faulty.{faulty, caught}
+use Rattle.faults.specs.declared.Fault.{Fault}
+use Rattle.simulator.proofs.FaultyLaws.{caught-at, run-changed, faulty-missing-control, faulty-extra-control, missing-control-caught}
+use Rattle.simulator.proofs.FaultyLaws.{extra-control-caught}
 
 module _ (n : ℕ) (gs : List Gate) (ok : AllOk n gs) (f : Fault) (lo : 1 ≤ f .place) (hi : f .place ≤ length gs) (x : ℕ) where
   -- a fault that leaves a gate as it is

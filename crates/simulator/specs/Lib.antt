@@ -1,7 +1,4 @@
-pub mod Faults
-pub mod Sites
+pub mod Faulty
 pub mod Rules
-pub mod Multiple
-pub mod Entries
 pub mod Tests
 pub mod Answers

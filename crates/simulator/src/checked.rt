@@ -4,18 +4,16 @@ ghost use mathlib.Core.Bool.{true, not, _&&_};
 ghost use Prim.Native.Nat.{_-_, _<_, _≤_};
 ghost use lib.ListN.{length, drop};
 ghost use lib.Dec.{eqb};
-ghost use Rattle.basics.specs.Choice.{pick};
+ghost use Rattle.basics.specs.Choice.{choice};
 ghost use Rattle.words.specs.Word.{bit, force};
 ghost use Rattle.circuit.specs.Gates.{gatesOf, gateAt};
 ghost use Rattle.circuit.specs.Runs.{fires, step, run, forward};
 ghost use Rattle.circuit.specs.Sound.{Sound};
-ghost use Rattle.simulator.specs.Faults.{forceAt, stuckRun, faulty, caught};
-ghost use Rattle.simulator.specs.Rules.{isFault, faultsOf};
-ghost use Rattle.simulator.specs.Multiple.{caughtTogether};
+ghost use Rattle.simulator.specs.Faulty.{forceAt, stuckRun, faulty, caught, caughtTogether};
+ghost use Rattle.faults.specs.Rules.{isFault};
+ghost use Rattle.faults.specs.Records.{faultsOf};
 ghost use Rattle.simulator.specs.Tests.{lineAtZero, testState, testFor};
-ghost use Rattle.simulator.specs.Entries.{Entries};
-use crate::Fault;
-use crate::records;
+ghost use Rattle.faults.specs.Entries.{Entries};
 use circuit::Gate;
 use circuit::checked::fires;
 use circuit::checked::gate_at;
@@ -28,6 +26,8 @@ use circuit::checked::step;
 use circuit::numbers;
 use circuit::numbers::GateNumber;
 use circuit::numbers::LevelNumber;
+use faults::Fault;
+use faults::records;
 use words;
 
 // From a level on to the output.
@@ -173,7 +173,7 @@ pub fn catches(lines: u32, gates: &[u32], vector: u32, fault: Fault) -> bool
 // One entry's line, forced where the state is at its level.
 fn force_entry(fault: Fault, level: u32, state: u32) -> u32
     requires { ⌜ fault .line < 32 ⌝ }
-    ensures { λ r. ⌜ r ≡ pick (eqb (fault .place) level) (force state (fault .line) (fault .value)) state ⌝ }
+    ensures { λ r. ⌜ r ≡ choice (eqb (fault .place) level) (force state (fault .line) (fault .value)) state ⌝ }
 {
     if fault.place == level {
         words::checked::force(state, fault.line, fault.value)

@@ -6,27 +6,18 @@ ghost use Rattle.refusals.specs.Tables.{firstOf};
 ghost use Rattle.refusals.specs.Tables.Told.{answered};
 ghost use Rattle.circuit.specs.Gates.{gatesOf};
 ghost use Rattle.circuit.specs.Answers.{told};
-ghost use Rattle.simulator.specs.Faults.{faulty, caught};
-ghost use Rattle.simulator.specs.Rules.{catchRows, testRows, faultsOf};
-ghost use Rattle.simulator.specs.Multiple.{caughtTogether, multipleRows};
+ghost use Rattle.simulator.specs.Faulty.{faulty, caught, caughtTogether};
+ghost use Rattle.simulator.specs.Rules.{catchRows, testRows, multipleRows};
+ghost use Rattle.faults.specs.Records.{faultsOf};
 ghost use Rattle.simulator.specs.Tests.{testFor};
 ghost use Rattle.simulator.specs.Answers.{toldCaught, toldMade};
 use circuit::Ran;
+use faults::Fault;
 use refusals::Checked;
 use refusals::Refusal;
 
 pub mod checked;
-pub mod records;
 pub mod rules;
-
-// One fault: its class, its level or gate, its line and its value.
-#[repr(C)]
-pub struct Fault {
-    pub class: u32,
-    pub place: u32,
-    pub line: u32,
-    pub value: u32,
-}
 
 // Whether a vector catches a fault.
 pub enum Caught {

@@ -26,13 +26,13 @@ use Rattle.circuit.specs.Runs.{forward, backward}
 use Rattle.circuit.specs.Sound.{AllOk}
 use Rattle.circuit.specs.declared.Gate.{Gate}
 use Rattle.circuit.proofs.RunLaws.{forward-lt, backward-lt, forward-backward, backward-none, onward-none, onward-forward}
-use Rattle.simulator.specs.Faults.{caught}
-use Rattle.simulator.proofs.FaultLaws.{stuck-caught}
-use Rattle.judge.specs.Classes.{faultOf}
+use Rattle.simulator.specs.Faulty.{caught}
+use Rattle.simulator.proofs.FaultyLaws.{stuck-caught}
+use Rattle.faults.specs.Classes.{faultOf}
 use Rattle.judge.specs.Judging.{caughtBySome}
 use Rattle.testsets.specs.Sets.{Complete, backwardInput, backwardSet}
 use Rattle.testsets.proofs.SetLaws.{complete-iff, stuck-of}
-use Rattle.testsets.proofs.SiteLaws.{site-below}
+use Rattle.faults.proofs.SiteCount.{site-below}
 
 -- what the vector of level i gives there
 pub backward-input-level : (n : ℕ) (gs : List Gate) → AllOk n gs → (i : ℕ) → forward gs i (backwardInput n gs i) ≡ inverse n (forward gs i 0)

@@ -17,12 +17,14 @@ use Rattle.circuit.specs.Sound.{AllOk}
 use Rattle.circuit.proofs.GateLaws.{gates-count}
 use Rattle.circuit.proofs.RuleLaws.{sound}
 use Rattle.circuit.specs.declared.Gate.{Gate}
-use Rattle.simulator.specs.Multiple.{caughtTogether, siteTwice}
-use Rattle.simulator.specs.Entries.{StuckOk}
-use Rattle.simulator.specs.declared.Fault.{Fault}
-use Rattle.judge.specs.Classes.{stuckFaults, classFaults}
+use Rattle.simulator.specs.Faulty.{caughtTogether}
+use Rattle.faults.specs.Multiple.{siteTwice}
+use Rattle.faults.specs.Entries.{StuckOk}
+use Rattle.faults.specs.declared.Fault.{Fault}
+use Rattle.faults.specs.Classes.{stuckFaults, classFaults}
 use Rattle.judge.specs.Judging.{left, caughtBySome, verdict}
-use Rattle.testsets.specs.Sets.{Complete, score, best, siteCount, bound, compactSet, backwardSet}
+use Rattle.testsets.specs.Sets.{Complete, score, best, bound, compactSet, backwardSet}
+use Rattle.faults.specs.Sites.{siteCount}
 use Rattle.testsets.specs.Rules.{backwardRows, compactRows}
 use Rattle.testsets.specs.Answers.{toldMade}
 use Rattle.testsets.specs.declared.Made.{Made}
@@ -30,7 +32,7 @@ use Rattle.testsets.specs.declared.Made.the-variants.{Count}
 use Rattle.testsets.proofs.SetLaws.{complete-verdict}
 use Rattle.testsets.proofs.RuleLaws.{backward-fine, compact-fine}
 use Rattle.testsets.proofs.AnswerLaws.{told-made-one}
-use Rattle.testsets.proofs.SiteLaws.{stuck-site, site-count}
+use Rattle.faults.proofs.SiteCount.{stuck-site, site-count}
 use Rattle.testsets.proofs.Halving.{best-half, half-left}
 use Rattle.testsets.proofs.Picks.{compact-complete, compact-few, compact-lt, bound-power}
 use Rattle.testsets.proofs.Multiple.{multiple-caught}

@@ -10,19 +10,19 @@ use lib.Pow.{pow-pos}
 use lib.ListN.{length}
 use lib.Dec.{eqb, ltb}
 use borrow.Author.Tests.{ltb-true, ltb-false, lt-ltb, le-ltb}
-use Rattle.basics.specs.Choice.{pick, count}
+use Rattle.basics.specs.Choice.{choice, count}
 use Rattle.basics.specs.Lists.{upFrom, keep, All}
-use Rattle.basics.proofs.Tests.{by-test, pick-true, pick-false}
+use Rattle.basics.proofs.Tests.{by-test, choice-true, choice-false}
 use Rattle.basics.proofs.Lists.{all-upFrom, upFrom-all}
 use Rattle.words.specs.Word.{bit, flip}
 use Rattle.words.proofs.Bits.{bit-le}
 use Rattle.words.proofs.Lines.{bit-flip-same}
 use Rattle.circuit.specs.Sound.{AllOk}
 use Rattle.circuit.specs.declared.Gate.{Gate}
-use Rattle.simulator.specs.Faults.{caught}
-use Rattle.simulator.specs.Entries.{StuckOk}
-use Rattle.simulator.specs.declared.Fault.{Fault}
-use Rattle.simulator.proofs.FaultLaws.{stuck-caught}
+use Rattle.simulator.specs.Faulty.{caught}
+use Rattle.faults.specs.Entries.{StuckOk}
+use Rattle.faults.specs.declared.Fault.{Fault}
+use Rattle.simulator.proofs.FaultyLaws.{stuck-caught}
 use Rattle.judge.specs.Judging.{left}
 use Rattle.testsets.specs.Sets.{score, bestOf, best}
 use Rattle.testsets.proofs.TotalLaws.{total, total-is-sum, sum-of-counts, total-cong, total-add, total-const, total-flip, total-forward}
@@ -88,7 +88,7 @@ some-half n gs ok fs w =
 -- ---- the best vector
 
 -- the better of two is as good as either
-pick-best : (F : ℕ → ℕ) (b x : ℕ) → (F b ≤ F (pick (ltb (F b) (F x)) x b)) × (F x ≤ F (pick (ltb (F b) (F x)) x b))
+pick-best : (F : ℕ → ℕ) (b x : ℕ) → (F b ≤ F (choice (ltb (F b) (F x)) x b)) × (F x ≤ F (choice (ltb (F b) (F x)) x b))
 pick-best F b x = by-test (ltb (F b) (F x))
     (λ e. rw e (le-of-lt (ltb-true (F b) (F x) e), le-refl (F x)))
     (λ e. rw e (le-refl (F b), ltb-false (F b) (F x) e))
@@ -97,7 +97,7 @@ pub best-of-best : (gs : List Gate) (fs : List Fault) (b : ℕ) (xs : List ℕ) 
 unfolding bestOf
 best-of-best gs fs b [] = (le-refl (score gs fs b), tt)
 best-of-best gs fs b (x ∷ xs) =
-    let m : ℕ = pick (ltb (score gs fs b) (score gs fs x)) x b in
+    let m : ℕ = choice (ltb (score gs fs b) (score gs fs x)) x b in
     let two = pick-best (score gs fs) b x in
     let rest = best-of-best gs fs m xs in
     (le-trans (two .0) (rest .0), (le-trans (two .1) (rest .0), rest .1))
@@ -108,7 +108,7 @@ unfolding bestOf
 best-of-one P gs fs b [] h w = h
 best-of-one P gs fs b (x ∷ xs) h w =
     let t : Bool = ltb (score gs fs b) (score gs fs x) in
-    best-of-one P gs fs (pick t x b) xs (by-test t (λ e. rw e (w .0)) (λ e. rw e h)) (w .1)
+    best-of-one P gs fs (choice t x b) xs (by-test t (λ e. rw e (w .0)) (λ e. rw e h)) (w .1)
 
 pub best-lt : (n : ℕ) (gs : List Gate) (fs : List Fault) → best n gs fs < 2 ^ n
 unfolding best
@@ -147,7 +147,7 @@ module _ (gs : List Gate) (fs : List Fault) where
       let all : 2 ^ n ≡ 2 ^ n - 0 = omega arith in
       ap (λ k. bestOf gs fs 0 (upFrom 0 k)) all
       ∙ ap (bestOf gs fs 0) (up-next 0 (2 ^ n) (pow-pos n))
-      ∙ ap (λ b. bestOf gs fs b (upFrom 1 (2 ^ n - 1))) (pick-false (le-ltb (score gs fs 0) (score gs fs 0) (le-refl (score gs fs 0))) 0 0)
+      ∙ ap (λ b. bestOf gs fs b (upFrom 1 (2 ^ n - 1))) (choice-false (le-ltb (score gs fs 0) (score gs fs 0) (le-refl (score gs fs 0))) 0 0)
 
   -- a higher score is better, and an equal one is not
   pub best-higher : (b next end : ℕ) → next < end → score gs fs b < score gs fs next
@@ -155,14 +155,14 @@ module _ (gs : List Gate) (fs : List Fault) where
   unfolding bestOf
   best-higher b next end h l =
       ap (bestOf gs fs b) (up-next next end h)
-      ∙ ap (λ m. bestOf gs fs m (upFrom (next + 1) (end - (next + 1)))) (pick-true (lt-ltb (score gs fs b) (score gs fs next) l) next b)
+      ∙ ap (λ m. bestOf gs fs m (upFrom (next + 1) (end - (next + 1)))) (choice-true (lt-ltb (score gs fs b) (score gs fs next) l) next b)
 
   pub best-kept : (b next end : ℕ) → next < end → score gs fs next ≤ score gs fs b
       → bestOf gs fs b (upFrom next (end - next)) ≡ bestOf gs fs b (upFrom (next + 1) (end - (next + 1)))
   unfolding bestOf
   best-kept b next end h l =
       ap (bestOf gs fs b) (up-next next end h)
-      ∙ ap (λ m. bestOf gs fs m (upFrom (next + 1) (end - (next + 1)))) (pick-false (le-ltb (score gs fs b) (score gs fs next) l) next b)
+      ∙ ap (λ m. bestOf gs fs m (upFrom (next + 1) (end - (next + 1)))) (choice-false (le-ltb (score gs fs b) (score gs fs next) l) next b)
 
   pub best-end : (b next end : ℕ) → end ≤ next → bestOf gs fs b (upFrom next (end - next)) ≡ b
   unfolding bestOf upFrom

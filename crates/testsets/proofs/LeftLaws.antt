@@ -26,17 +26,17 @@ use Rattle.circuit.specs.Runs.{forward}
 use Rattle.circuit.specs.Sound.{AllOk}
 use Rattle.circuit.specs.declared.Gate.{Gate}
 use Rattle.circuit.proofs.RunLaws.{forward-lt}
-use Rattle.simulator.specs.Sites.{sites}
-use Rattle.simulator.specs.Faults.{caught}
-use Rattle.simulator.proofs.FaultLaws.{stuck-caught}
-use Rattle.judge.specs.Classes.{faultOf, stuckFaults}
-use Rattle.judge.specs.Coverages.{levelMarked}
+use Rattle.faults.specs.Sites.{sites}
+use Rattle.simulator.specs.Faulty.{caught}
+use Rattle.simulator.proofs.FaultyLaws.{stuck-caught}
+use Rattle.faults.specs.Classes.{faultOf, stuckFaults}
+use Rattle.marking.specs.Marks.{levelMarked}
 use Rattle.judge.specs.Judging.{caughtBySome, left}
-use Rattle.judge.proofs.ClassParts.{all-stuck}
-use Rattle.judge.proofs.Counting.{count-stuck}
+use Rattle.faults.proofs.ClassParts.{all-stuck}
+use Rattle.marking.proofs.Counting.{count-stuck}
 use Rattle.testsets.specs.Sets.{score}
 use Rattle.testsets.specs.Left.{leftOf, AllSites, OnSites, Left}
-use Rattle.testsets.proofs.SiteLaws.{site-below}
+use Rattle.faults.proofs.SiteCount.{site-below}
 use Rattle.testsets.proofs.SetLaws.{stuck-of}
 use Rattle.testsets.proofs.Changes.{Changed}
 

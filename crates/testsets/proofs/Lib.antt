@@ -2,7 +2,6 @@ pub mod Log2Laws
 pub mod Levels
 pub mod Changes
 pub mod TotalLaws
-pub mod SiteLaws
 pub mod SetLaws
 pub mod LeftLaws
 pub mod Halving

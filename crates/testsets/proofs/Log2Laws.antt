@@ -7,8 +7,8 @@ use native.Mathlib.Omega.{arith}
 use lib.Arith.{half-le}
 use lib.Dec.{ltb}
 use borrow.Author.Tests.{ltb-true, ltb-false, lt-ltb, le-ltb}
-use Rattle.basics.proofs.Tests.{by-test, pick-true, pick-false}
-use Rattle.basics.specs.Choice.{pick}
+use Rattle.basics.proofs.Tests.{by-test, choice-true, choice-false}
+use Rattle.basics.specs.Choice.{choice}
 use Rattle.words.proofs.Bits.{lt-pow-self}
 use Rattle.testsets.specs.Log2.{log2In, log2}
 
@@ -39,20 +39,20 @@ log2-le m h = log2In-le m m h
 log2In-same : (k l m : ℕ) → m ≤ k → m ≤ l → log2In k m ≡ log2In l m
 unfolding log2In
 log2In-same zero zero m p q = refl
-log2In-same zero (suc l) m p q = sym (pick-true (lt-ltb m 2 (omega arith)) 0 _)
-log2In-same (suc k) zero m p q = pick-true (lt-ltb m 2 (omega arith)) 0 _
-log2In-same (suc k) (suc l) m p q = ap (λ r. pick (ltb m 2) 0 (suc r)) (log2In-same k l (m / 2) (half-le p) (half-le q))
+log2In-same zero (suc l) m p q = sym (choice-true (lt-ltb m 2 (omega arith)) 0 _)
+log2In-same (suc k) zero m p q = choice-true (lt-ltb m 2 (omega arith)) 0 _
+log2In-same (suc k) (suc l) m p q = ap (λ r. choice (ltb m 2) 0 (suc r)) (log2In-same k l (m / 2) (half-le p) (half-le q))
 
 pub log2-small : (m : ℕ) → m < 2 → log2 m ≡ 0
 unfolding log2 log2In
 log2-small zero h = refl
-log2-small (suc m) h = pick-true (lt-ltb (suc m) 2 h) 0 _
+log2-small (suc m) h = choice-true (lt-ltb (suc m) 2 h) 0 _
 
 pub log2-half : (m : ℕ) → 2 ≤ m → log2 m ≡ log2 (m / 2) + 1
 unfolding log2 log2In
 log2-half zero h = absurd (omega arith)
 log2-half (suc m) h =
-    pick-false (le-ltb (suc m) 2 h) 0 _
+    choice-false (le-ltb (suc m) 2 h) 0 _
     ∙ ap suc (log2In-same m (suc m / 2) (suc m / 2) (omega arith) (le-refl (suc m / 2))) ∙ sym (add-one (log2 (suc m / 2)))
 
 -- it is not above the number

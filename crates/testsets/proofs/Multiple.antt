@@ -11,9 +11,9 @@ use native.Mathlib.Omega.{arith}
 use lib.ListN.{length, drop}
 use lib.Dec.{eqb}
 use borrow.Author.Tests.{eq-eqb, ne-eqb}
-use Rattle.basics.specs.Choice.{pick}
+use Rattle.basics.specs.Choice.{choice}
 use Rattle.basics.specs.Lists.{some, All}
-use Rattle.basics.proofs.Tests.{pick-true, not-eqb-iff, by-equal, and-true, or-neither}
+use Rattle.basics.proofs.Tests.{choice-true, not-eqb-iff, by-equal, and-true, or-neither}
 use Rattle.basics.proofs.All.{all-map, all-drop}
 use Rattle.basics.proofs.Lists.{all-entry}
 use Rattle.basics.proofs.Kept.{none-some}
@@ -23,13 +23,13 @@ use Rattle.circuit.specs.Runs.{run, forward}
 use Rattle.circuit.specs.Sound.{GateOk, AllOk}
 use Rattle.circuit.specs.declared.Gate.{Gate}
 use Rattle.circuit.proofs.RunLaws.{run-injective, run-from-level}
-use Rattle.simulator.specs.Faults.{caught, forceAt, stuckRun}
-use Rattle.simulator.specs.Multiple.{caughtTogether, sameSite, siteTwice}
-use Rattle.simulator.specs.Entries.{StuckOk}
-use Rattle.simulator.specs.declared.Fault.{Fault}
-use Rattle.simulator.proofs.FaultLaws.{arrive, stuck-from, stuck-caught}
+use Rattle.simulator.specs.Faulty.{caught, forceAt, stuckRun, caughtTogether}
+use Rattle.faults.specs.Multiple.{sameSite, siteTwice}
+use Rattle.faults.specs.Entries.{StuckOk}
+use Rattle.faults.specs.declared.Fault.{Fault}
+use Rattle.simulator.proofs.FaultyLaws.{arrive, stuck-from, stuck-caught}
 use Rattle.testsets.specs.Sets.{Complete}
-use Rattle.testsets.proofs.SiteLaws.{AtSite}
+use Rattle.faults.proofs.SiteCount.{AtSite}
 use Rattle.testsets.proofs.SetLaws.{complete-catches}
 
 -- ---- no site is named twice
@@ -60,22 +60,22 @@ force-kept : (fs : List Fault) (i s j : ℕ) → All (λ h. h .place ≡ i → h
 unfolding forceAt
 force-kept [] i s j w = refl
 force-kept (h ∷ fs) i s j w =
-    let here : bit (pick (eqb (h .place) i) (force s (h .line) (h .value)) s) j ≡ bit s j =
+    let here : bit (choice (eqb (h .place) i) (force s (h .line) (h .value)) s) j ≡ bit s j =
     by-equal (h .place) i
     (λ e. rw (eq-eqb (h .place) i e) (bit-force-other s (h .line) (h .value) j (w .0 e)))
     (λ d. rw (ne-eqb (h .place) i d)) in
-    force-kept fs i (pick (eqb (h .place) i) (force s (h .line) (h .value)) s) j (w .1) ∙ here
+    force-kept fs i (choice (eqb (h .place) i) (force s (h .line) (h .value)) s) j (w .1) ∙ here
 
 -- an entry's line has its value at its level
 force-hits : (f : Fault) (fs : List Fault) (s : ℕ) → List·Memᴰ f fs → Distinct fs → f .value ≤ 1 → bit (forceAt fs (f .place) s) (f .line) ≡ f .value
 unfolding forceAt
 force-hits f fs s (List·Memᴰ·head {x = h} {xs = hs} q) w v =
     subst (λ y. bit (forceAt (h ∷ hs) (y .place) s) (y .line) ≡ y .value) (sym q)
-    (force-kept hs (h .place) (pick (eqb (h .place) (h .place)) (force s (h .line) (h .value)) s) (h .line) (w .0)
-    ∙ ap (λ t. bit t (h .line)) (pick-true (eq-eqb (h .place) (h .place) refl) (force s (h .line) (h .value)) s)
+    (force-kept hs (h .place) (choice (eqb (h .place) (h .place)) (force s (h .line) (h .value)) s) (h .line) (w .0)
+    ∙ ap (λ t. bit t (h .line)) (choice-true (eq-eqb (h .place) (h .place) refl) (force s (h .line) (h .value)) s)
     ∙ bit-force-same s (h .line) (h .value) (subst (λ y. y .value ≤ 1) q v))
 force-hits f fs s (List·Memᴰ·tail {x = h} {xs = hs} m) w v =
-    force-hits f hs (pick (eqb (h .place) (f .place)) (force s (h .line) (h .value)) s) m (w .1) v
+    force-hits f hs (choice (eqb (h .place) (f .place)) (force s (h .line) (h .value)) s) m (w .1) v
 
 -- ---- the deepest level
 

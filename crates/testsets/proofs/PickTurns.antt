@@ -10,15 +10,16 @@ use Rattle.basics.proofs.Fills.{fill-turn, fill-length, fill-done, fill-next, f
 use Rattle.circuit.specs.Gates.{gatesOf}
 use Rattle.circuit.specs.Sound.{AllOk, Sound}
 use Rattle.circuit.specs.declared.Gate.{Gate}
-use Rattle.simulator.specs.Entries.{StuckOk}
-use Rattle.simulator.specs.declared.Fault.{Fault}
-use Rattle.judge.specs.Classes.{stuckFaults}
-use Rattle.judge.specs.Coverages.{levelMarked}
+use Rattle.faults.specs.Entries.{StuckOk}
+use Rattle.faults.specs.declared.Fault.{Fault}
+use Rattle.faults.specs.Classes.{stuckFaults}
+use Rattle.marking.specs.Marks.{levelMarked}
 use Rattle.judge.specs.Judging.{left}
-use Rattle.testsets.specs.Sets.{score, best, picks, siteCount, bound, compactSet}
+use Rattle.testsets.specs.Sets.{score, best, picks, bound, compactSet}
+use Rattle.faults.specs.Sites.{siteCount}
 use Rattle.testsets.specs.Left.{leftOf, AllSites, Left}
 use Rattle.testsets.proofs.Log2Laws.{log2-le-self}
-use Rattle.testsets.proofs.SiteLaws.{stuck-sites, site-count-le, site-count-some}
+use Rattle.faults.proofs.SiteCount.{stuck-sites, site-count-le, site-count-some}
 use Rattle.testsets.proofs.SetLaws.{stuck-ok, score-left}
 use Rattle.testsets.proofs.LeftLaws.{sites-left, sites-left-all}
 use Rattle.testsets.proofs.Halving.{best-half, half-left}

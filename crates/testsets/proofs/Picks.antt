@@ -8,16 +8,17 @@ use lib.ListN.{length}
 use Rattle.basics.specs.Lists.{All}
 use Rattle.circuit.specs.Sound.{AllOk}
 use Rattle.circuit.specs.declared.Gate.{Gate}
-use Rattle.simulator.specs.Entries.{StuckOk}
-use Rattle.simulator.specs.declared.Fault.{Fault}
-use Rattle.judge.specs.Classes.{stuckFaults}
+use Rattle.faults.specs.Entries.{StuckOk}
+use Rattle.faults.specs.declared.Fault.{Fault}
+use Rattle.faults.specs.Classes.{stuckFaults}
 use Rattle.judge.specs.Judging.{left}
 use Rattle.testsets.specs.Log2.{log2}
-use Rattle.testsets.specs.Sets.{Complete, best, picks, siteCount, bound, compactSet}
+use Rattle.testsets.specs.Sets.{Complete, best, picks, bound, compactSet}
+use Rattle.faults.specs.Sites.{siteCount}
 use Rattle.testsets.proofs.Log2Laws.{log2-lt, log2-le}
 use Rattle.testsets.proofs.TotalLaws.{pow-double}
 use Rattle.testsets.proofs.SetLaws.{stuck-ok, left-cons, left-nil, left-le, all-left}
-use Rattle.testsets.proofs.SiteLaws.{stuck-sites}
+use Rattle.faults.proofs.SiteCount.{stuck-sites}
 use Rattle.testsets.proofs.Halving.{best-lt, half-left}
 
 -- a list that 2 ^ k times is shorter than 2 ^ k is empty

@@ -13,15 +13,16 @@ use Rattle.basics.proofs.Lists.{length-keep, keep-parts, keep-le, keep-cong, ke
 use Rattle.words.specs.Word.{bit}
 use Rattle.refusals.specs.Tables.Told.{answered}
 use Rattle.circuit.specs.declared.Gate.{Gate}
-use Rattle.simulator.specs.Sites.{sites}
-use Rattle.simulator.specs.Faults.{caught}
-use Rattle.simulator.specs.Entries.{StuckOk}
-use Rattle.simulator.specs.declared.Fault.{Fault}
-use Rattle.judge.specs.Classes.{faultOf, stuckFaults, classFaults}
-use Rattle.judge.specs.Judging.{caughtBySome, left, firstTold, verdict}
+use Rattle.faults.specs.Sites.{sites}
+use Rattle.simulator.specs.Faulty.{caught}
+use Rattle.faults.specs.Entries.{StuckOk}
+use Rattle.faults.specs.declared.Fault.{Fault}
+use Rattle.faults.specs.Classes.{faultOf, stuckFaults, classFaults}
+use Rattle.judge.specs.Judging.{caughtBySome, left, verdict}
+use Rattle.marking.specs.Firsts.{firstTold}
 use Rattle.testsets.specs.Sets.{Complete, score}
-use Rattle.judge.proofs.ClassParts.{all-stuck, stuck-all}
-use Rattle.testsets.proofs.SiteLaws.{AtSite, site-below}
+use Rattle.faults.proofs.ClassParts.{all-stuck, stuck-all}
+use Rattle.faults.proofs.SiteCount.{AtSite, site-below}
 
 -- ---- all stuck-at faults of a circuit
 

@@ -7,10 +7,10 @@ use lib.ListN.{length, getD}
 use Rattle.basics.specs.Lists.{keep}
 use Rattle.words.specs.Word.{bit}
 use Rattle.circuit.specs.declared.Gate.{Gate}
-use Rattle.simulator.specs.Sites.{sites}
-use Rattle.simulator.specs.declared.Fault.{Fault}
-use Rattle.judge.specs.Classes.{stuckFaults}
-use Rattle.judge.specs.Coverages.{levelMarked}
+use Rattle.faults.specs.Sites.{sites}
+use Rattle.faults.specs.declared.Fault.{Fault}
+use Rattle.faults.specs.Classes.{stuckFaults}
+use Rattle.marking.specs.Marks.{levelMarked}
 
 -- the list of them
 unfoldable pub leftOf : ℕ → List Gate → List ℕ → List ℕ → List Fault

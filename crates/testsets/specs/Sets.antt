@@ -4,17 +4,16 @@ use mathlib.Core.Path.{_≡_}
 use mathlib.Core.List.{List, [], _∷_, map}
 use lib.ListN.{length}
 use lib.Dec.{ltb}
-use Rattle.basics.specs.Choice.{pick}
+use Rattle.basics.specs.Choice.{choice}
 use Rattle.basics.specs.Lists.{upFrom, keep}
-use Rattle.basics.specs.Sums.{sumFrom}
-use Rattle.words.specs.Word.{allOnes, linesOn}
+use Rattle.words.specs.Word.{allOnes}
 use Rattle.words.specs.Inverse.{inverse}
 use Rattle.circuit.specs.Runs.{forward, backward}
 use Rattle.circuit.specs.declared.Gate.{Gate}
-use Rattle.simulator.specs.Sites.{sites}
-use Rattle.simulator.specs.Faults.{caught}
-use Rattle.simulator.specs.declared.Fault.{Fault}
-use Rattle.judge.specs.Classes.{stuckFaults}
+use Rattle.faults.specs.Sites.{siteCount}
+use Rattle.simulator.specs.Faulty.{caught}
+use Rattle.faults.specs.declared.Fault.{Fault}
+use Rattle.faults.specs.Classes.{stuckFaults}
 use Rattle.judge.specs.Judging.{left}
 use Rattle.testsets.specs.Log2.{log2}
 
@@ -31,7 +30,7 @@ score gs fs x = length (keep (λ f. caught gs f x) fs)
 -- the first vector with the highest score; b is the best so far
 unfoldable pub bestOf : List Gate → List Fault → ℕ → List ℕ → ℕ
 bestOf gs fs b [] = b
-bestOf gs fs b (x ∷ xs) = bestOf gs fs (pick (ltb (score gs fs b) (score gs fs x)) x b) xs
+bestOf gs fs b (x ∷ xs) = bestOf gs fs (choice (ltb (score gs fs b) (score gs fs x)) x b) xs
 
 -- the smallest of all vectors of n lines with the highest score
 unfoldable pub best : ℕ → List Gate → List Fault → ℕ
@@ -44,10 +43,6 @@ picks (suc k) n gs [] = []
 picks (suc k) n gs (f ∷ fs) =
     let b = best n gs (f ∷ fs) in
     b ∷ picks k n gs (left gs (b ∷ []) (f ∷ fs))
-
--- the number of sites, over all levels
-unfoldable pub siteCount : ℕ → List Gate → ℕ
-siteCount n gs = sumFrom (λ i. length (linesOn n (sites n gs i))) 0 (suc (length gs))
 
 -- the most vectors that a compact set has
 unfoldable pub bound : ℕ → List Gate → ℕ

@@ -10,7 +10,7 @@ ghost use Rattle.testsets.specs.Left.{leftOf, Left};
 use crate::left::all_sites;
 use crate::left::drop_caught;
 use crate::left::score;
-use crate::rules::site_count;
+use faults::sites::site_count;
 
 // An input, and how many of the faults that are left it catches.
 pub struct Pick {

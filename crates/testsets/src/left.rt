@@ -14,7 +14,7 @@ ghost use Rattle.testsets.specs.Left.{leftOf, AllSites, Left};
 use circuit::checked::gate_at;
 use circuit::checked::step;
 use circuit::numbers;
-use simulator::rules::sites_at;
+use faults::sites::sites_at;
 use words;
 
 // At the start every site of every level is left.

@@ -5,28 +5,12 @@ ghost use Rattle.refusals.specs.Checks.{fine, found};
 ghost use Rattle.circuit.specs.Gates.{gatesOf};
 ghost use Rattle.circuit.specs.Sound.{Sound};
 ghost use Rattle.testsets.specs.Log2.{log2};
-ghost use Rattle.testsets.specs.Sets.{siteCount, bound};
+ghost use Rattle.testsets.specs.Sets.{bound};
 ghost use Rattle.testsets.specs.Rules.{backwardRows, compactRows};
 use circuit::rules::check_circuit;
+use faults::sites::site_count;
 use refusals::Checked;
 use refusals::Refusal;
-use simulator::rules::sites_at;
-use words;
-
-// The number of sites, over all levels.
-pub fn site_count(lines: u32, gates: &[u32]) -> u32
-    requires { ⌜ Sound lines (now gates) ⌝ }
-    ensures { λ r. ⌜ r ≡ siteCount lines (gatesOf (now (gates .entry))) ⌝ }
-{
-    let end = gates.len() / 3 + 1;
-    let mut sum = 0;
-    let mut i = 0;
-    while i < end {
-        sum += words::ones(sites_at(lines, gates, i as u32));
-        i += 1;
-    }
-    sum
-}
 
 // The whole part of the logarithm to the base 2: how often a number can be halved before it is below 2.
 fn log2(number: u32) -> u32

@@ -11,7 +11,7 @@ use lib.ListN.{length, getD, drop}
 use lib.Bits.{bitAnd, bitOr, and-le-r, or-lt, xor-lt}
 use lib.Dec.{eqb}
 use borrow.Author.Tests.{eqb-true, eqb-false, ne-eqb}
-use Rattle.basics.specs.Choice.{pick}
+use Rattle.basics.specs.Choice.{choice}
 use Rattle.basics.specs.Lists.{upFrom, keep, All}
 use Rattle.basics.proofs.Lists.{keep-cong, keep-keep, keep-le, keep-none, none-kept, all-upFrom, upFrom-all, length-upFrom}
 use Rattle.basics.proofs.All.{all-of}
@@ -46,7 +46,7 @@ kept-short : (p : ℕ → Bool) (a k m : ℕ) → k ≤ m → ((j : ℕ) → a +
 unfolding keep upFrom
 kept-short p a zero m h f = keep-none p (upFrom a m) (all-upFrom _ a m (λ j l u. f j (omega arith)))
 kept-short p a (suc k) zero h f = absurd (omega arith)
-kept-short p a (suc k) (suc m) h f = ap (λ l. pick (p a) (a ∷ l) l) (kept-short p (suc a) k m (omega arith) (λ j l. f j (omega arith)))
+kept-short p a (suc k) (suc m) h f = ap (λ l. choice (p a) (a ∷ l) l) (kept-short p (suc a) k m (omega arith) (λ j l. f j (omega arith)))
 
 off : (w j : ℕ) → bit w j ≡ 0 → eqb (bit w j) 1 ≡ false
 off w j e = ne-eqb (bit w j) 1 (λ o. omega arith)

@@ -8,7 +8,7 @@ use lib.Pow.{shl-exact, pow-pos, pow-mono}
 use lib.Bits.{bitAnd, bitXor, xor-zero-r}
 use lib.Dec.{eqb}
 use mir.Val.{boolByte}
-use Rattle.basics.specs.Choice.{pick}
+use Rattle.basics.specs.Choice.{choice}
 use Rattle.words.specs.Word.{flip, allOn, allOnes}
 
 -- a one shifted to line t is that line's word
@@ -25,7 +25,7 @@ unfolding flip
 flip-shl s t h = rw (one-shl t h)
 
 -- a line inverted where a test passes: the test as a number, shifted
-pub flip-shl-when : (b : Bool) (s t : ℕ) → t < 32 → bitXor s ((boolByte b * 2 ^ t) % 2 ^ 32) ≡ pick b (flip s t) s
+pub flip-shl-when : (b : Bool) (s t : ℕ) → t < 32 → bitXor s ((boolByte b * 2 ^ t) % 2 ^ 32) ≡ choice b (flip s t) s
 flip-shl-when true s t h = flip-shl s t h
 flip-shl-when false s t h = rw (zero-mul (2 ^ t), xor-zero-r s)
 

@@ -9,11 +9,11 @@ use lib.ListN.{length}
 use lib.Dec.{eqb}
 use lib.Count.{ones, ones-step}
 use lib.Pow.{shr-shr, mod-mod-pow, field}
-use Rattle.basics.specs.Choice.{pick}
+use Rattle.basics.specs.Choice.{choice}
 use Rattle.basics.specs.Lists.{upFrom, keep}
 use Rattle.words.specs.Word.{bit, linesOn}
 
-one-more : (b j : ℕ) (l : List ℕ) → b < 2 → length (pick (eqb b 1) (j ∷ l) l) ≡ b + length l
+one-more : (b j : ℕ) (l : List ℕ) → b < 2 → length (choice (eqb b 1) (j ∷ l) l) ≡ b + length l
 one-more zero j l h = omega arith
 one-more (suc zero) j l h = omega arith
 one-more (suc (suc b)) j l h = absurd (omega arith)

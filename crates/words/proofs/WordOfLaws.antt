@@ -9,7 +9,7 @@ use native.Mathlib.Omega.{arith}
 use lib.Pow.{pow-mono, pow-pos}
 use lib.Dec.{eqb}
 use borrow.Author.Tests.{eq-eqb, ne-eqb}
-use Rattle.basics.specs.Choice.{pick, count}
+use Rattle.basics.specs.Choice.{choice, count}
 use Rattle.basics.specs.Lists.{upFrom, keep}
 use Rattle.basics.proofs.Kept.{keep-upFrom-cong}
 use Rattle.words.specs.Word.{bit, allOnes, linesOn}
@@ -79,12 +79,12 @@ pub wordOf-all : (n : ℕ) (p : ℕ → Bool) → ((j : ℕ) → j < n → p j �
 wordOf-all n p h = sym (word-is n (allOnes n) p (all-ones-lt n) (λ j l. eq-eqb (bit (allOnes n) j) 1 (bit-all-ones n j l) ∙ sym (h j l)))
 
 -- one test for all lines
-pub wordOf-same : (n : ℕ) (b : Bool) → wordOf n (λ j. b) ≡ pick b (allOnes n) 0
+pub wordOf-same : (n : ℕ) (b : Bool) → wordOf n (λ j. b) ≡ choice b (allOnes n) 0
 wordOf-same n true = wordOf-all n (λ j. true) (λ j l. refl)
 wordOf-same n false = wordOf-none n (λ j. false) (λ j l. refl)
 
 -- and one besides each line's own
-pub wordOf-when : (n : ℕ) (p : ℕ → Bool) (b : Bool) → wordOf n (λ j. p j && b) ≡ pick b (wordOf n p) 0
+pub wordOf-when : (n : ℕ) (p : ℕ → Bool) (b : Bool) → wordOf n (λ j. p j && b) ≡ choice b (wordOf n p) 0
 wordOf-when n p true = wordOf-cong n (λ j. p j && true) p (λ j l. and-true (p j))
 wordOf-when n p false = wordOf-none n (λ j. p j && false) (λ j l. and-false (p j))
 

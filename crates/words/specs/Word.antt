@@ -4,7 +4,7 @@ use mathlib.Core.Bool.{Bool}
 use mathlib.Core.List.{List}
 use lib.Bits.{bitAnd, bitXor}
 use lib.Dec.{eqb}
-use Rattle.basics.specs.Choice.{pick}
+use Rattle.basics.specs.Choice.{choice}
 use Rattle.basics.specs.Lists.{upFrom, keep}
 
 -- the value of line j
@@ -17,7 +17,7 @@ flip s j = bitXor s (2 ^ j)
 
 -- line j forced to v
 unfoldable pub force : ℕ → ℕ → ℕ → ℕ
-force s j v = pick (eqb (bit s j) v) s (flip s j)
+force s j v = choice (eqb (bit s j) v) s (flip s j)
 
 -- every line of the mask is 1
 unfoldable pub allOn : ℕ → ℕ → Bool

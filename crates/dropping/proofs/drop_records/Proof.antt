@@ -31,7 +31,7 @@ use Rattle.refusals.specs.Places.{inWord}
 use Rattle.refusals.specs.Tables.{Row, firstOf}
 use Rattle.circuit.proofs.RuleLaws.{vector-ok}
 use Rattle.circuit.specs.Rules.{circuitRows, vectorRows}
-use Rattle.simulator.specs.declared.Fault.{Fault}
+use Rattle.faults.specs.declared.Fault.{Fault}
 use Rattle.dropping.specs.Answers.{isWrong, answerTo}
 use Rattle.dropping.specs.Rules.{dropRecordsRows}
 use Rattle.dropping.proofs.RuleLaws.{drop-records-ok, passed, wrong-told, wrong-kept, fine-told, first-wrong, second-found}

@@ -1,6 +1,6 @@
 -- `nufsadeem::nuf_catches` meets its contract: its fields are those of what `simulator::catches` tells. Assumes nothing.
 use mathlib.Core.Path.{ap, _∙_}
-use Rattle.nufsadeem.specs.Fields.{fields}
+use Rattle.answers.specs.Fields.{fields}
 use borrow.Author.Needs.{needs}
 use Rattle.nufsadeem.proofs.nuf_catches.Statement.{statement}
 use Rattle.nufsadeem.proofs.nuf_catches.Tie as tie

@@ -1,6 +1,6 @@
 -- `nufsadeem::nuf_catches_multiple` meets its contract: its fields are those of what `simulator::catches_multiple` tells. Assumes nothing.
 use mathlib.Core.Path.{ap, _∙_}
-use Rattle.nufsadeem.specs.Fields.{fields}
+use Rattle.answers.specs.Fields.{fields}
 use borrow.Author.Needs.{needs}
 use Rattle.nufsadeem.proofs.nuf_catches_multiple.Statement.{statement}
 use Rattle.nufsadeem.proofs.nuf_catches_multiple.Tie as tie

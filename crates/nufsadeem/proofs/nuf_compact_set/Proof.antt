@@ -1,7 +1,7 @@
 -- `nufsadeem::nuf_compact_set` meets its contract: its fields are those of what `testsets::compact_set` tells, and memory is as it leaves it.
 -- Assumes nothing.
 use mathlib.Core.Path.{ap, _∙_}
-use Rattle.nufsadeem.specs.Fields.{fields}
+use Rattle.answers.specs.Fields.{fields}
 use borrow.Author.Needs.{needs}
 use Rattle.nufsadeem.proofs.nuf_compact_set.Statement.{statement}
 use Rattle.nufsadeem.proofs.nuf_compact_set.Tie as tie

@@ -25,21 +25,21 @@ use mathlib.Core.Path.{refl, ap, _∙_}
 use package.mir.Syntax.{Ty, field, tyInt, valueLocal, w32, w64}
 use Rattle.walk.proofs.Walk.{Model, Code, Knows, is, word, words-at, mut-all, owed-len, shr-all, shr-stays, _⨾_, free, returns}
 use Rattle.walk.proofs.Walk.{calls, gone, held, reads, let-go, yields, same-slots, begins, ends, forgets, lends, gathers, backs}
-use Rattle.nufsadeem.specs.Fields.{fields}
+use Rattle.answers.specs.Fields.{fields}
 use Rattle.nufsadeem.proofs.Drops as CK
 use Rattle.dropping.proofs.Faults as FR
 use Rattle.dropping.proofs.Ported.drop_records.Kinds as drop-records-kinds
 use Rattle.dropping.proofs.Ported.drop_records.Reads as drop-records-reads
 use Rattle.dropping.proofs.drop_records.Symbol as drop-records-def
 use Rattle.dropping.proofs.drop_records.Met as drop-records-met
-use Rattle.nufsadeem.proofs.answers.left_of.Kinds as left-of-kinds
-use Rattle.nufsadeem.proofs.answers.left_of.Reads as left-of-reads
-use Rattle.nufsadeem.proofs.answers.left_of.Symbol as left-of-def
-use Rattle.nufsadeem.proofs.answers.left_of.Met as left-of-met
+use Rattle.answers.proofs.left_of.Kinds as left-of-kinds
+use Rattle.answers.proofs.left_of.Reads as left-of-reads
+use Rattle.answers.proofs.left_of.Symbol as left-of-def
+use Rattle.answers.proofs.left_of.Met as left-of-met
 use Rattle.nufsadeem.proofs.Ported.nuf_drop_records.Kinds.{ps, r}
 use Rattle.nufsadeem.proofs.Ported.nuf_drop_records.Reads as stated
-use Rattle.nufsadeem.proofs.nuf_drop_records.Statement.{statement}
 use Rattle.nufsadeem.proofs.nuf_drop_records.Key.{name as #key}
+use Rattle.nufsadeem.proofs.nuf_drop_records.Statement.{statement}
 use Rattle.nufsadeem.proofs.nuf_drop_records.Code as code
 use Rattle.nufsadeem.proofs.nuf_drop_records.Code.Mir as mir
 
@@ -51,7 +51,7 @@ tys = tyR r ∷ tysP ps xs
 
 abbrev Kn : Model → Type 1
 Kn w = Knows 2 drop-records-kinds.ps drop-records-kinds.r drop-records-reads.Asked drop-records-reads.Learnt "dropping::drop_records" w
-    × Knows 0 left-of-kinds.ps left-of-kinds.r left-of-reads.Asked left-of-reads.Learnt "nufsadeem::answers::left_of" w
+    × Knows 0 left-of-kinds.ps left-of-kinds.r left-of-reads.Asked left-of-reads.Learnt "answers::left_of" w
 
 abbrev derivation : (κs : Lfts 2) (qs : Shares 2) (bs : List ℕ) → Code tys bs Kn (Γin 2 ps r xs 1 κs qs) mir.t-1 (Δret 2 ps r xs 1 κs qs)
 derivation κs qs bs =
@@ -83,7 +83,7 @@ derivation κs qs bs =
     backs FR.R 7 4 1 2 (FR.mut-at 1) FR.mut-now (lease (κs .1 .0) (qs .1 .0)) (λ x. x) (λ x. x) (is (msleft FR.R FR.mut-now))
     (is (mslice-owed FR.R (FR.mut-at 1) 1 2 (lease (κs .1 .0) (qs .1 .0)))) refl refl (
     forgets 2 dead refl (
-    _⨾_ (calls left-of-kinds.ps left-of-kinds.r left-of-reads.Asked left-of-reads.Learnt "nufsadeem::answers::left_of" (λ w k. k .1)
+    _⨾_ (calls left-of-kinds.ps left-of-kinds.r left-of-reads.Asked left-of-reads.Learnt "answers::left_of" (λ w k. k .1)
     (λ pos β. β) [] (record { pos = 5; st = []; d = 0; at = λ x. x }, tt) 0 (tyR r) (λ w. refl) (same-slots _)
     (λ w. ((yields CK.elem w, refl), tt)) (gone (tyR r)) tt refl) (
     free 5 CK.ty (let-go CK.elem) (
@@ -121,6 +121,6 @@ nuf-drop-records-spec 𝓤 H 𝓜 𝓖 𝓡 =
     (λ κs qs bs bd. derivation κs qs bs .ok record { M = _; 𝓤 = 𝓤; H = H; A = 𝓖 .A; W = givenOf 𝓤 H 𝓜 𝓖; 𝓣 = Over 𝓤 H 𝓜 𝓖 𝓡 code.env } (
       drop-records-reads.known w code.env drop-records-def.name drop-records-def.routine code.calls-dropping·drop-records
           (drop-records-met.met 𝓤 H 𝓜 𝓖 𝓡),
-      left-of-reads.known w code.env left-of-def.name left-of-def.routine code.calls-nufsadeem·answers·left-of (left-of-met.met 𝓤 H 𝓜 𝓖 𝓡),
+      left-of-reads.known w code.env left-of-def.name left-of-def.routine code.calls-answers·left-of (left-of-met.met 𝓤 H 𝓜 𝓖 𝓡),
     ))
     stated.Pre stated.Post goals)

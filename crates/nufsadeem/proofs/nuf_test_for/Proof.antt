@@ -1,6 +1,6 @@
 -- `nufsadeem::nuf_test_for` meets its contract: its fields are those of what `simulator::test_for` tells. Assumes nothing.
 use mathlib.Core.Path.{ap, _∙_}
-use Rattle.nufsadeem.specs.Fields.{fields}
+use Rattle.answers.specs.Fields.{fields}
 use borrow.Author.Needs.{needs}
 use Rattle.nufsadeem.proofs.nuf_test_for.Statement.{statement}
 use Rattle.nufsadeem.proofs.nuf_test_for.Tie as tie

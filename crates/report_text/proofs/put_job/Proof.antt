@@ -1,7 +1,7 @@
 -- `report_text::put_job` meets its contract: the line of the job and the lines of its classes stand side by side, and fit. Assumes nothing.
 use mathlib.Core.Path.{_∙_}
 use native.Mathlib.Omega.{arith}
-use Rattle.report_text.proofs.TextLaws.{room-as, put-as}
+use Rattle.text.proofs.TextLaws.{room-as, put-as}
 use Rattle.report_text.proofs.LengthLaws.{job-parts, job-fits}
 use Rattle.report_text.proofs.ReportLaws.{job-line, job-put}
 use borrow.Author.Needs.{needs}

@@ -1,6 +1,6 @@
 -- `report_text::put_refused` meets its contract: it is the line of the refusal's two numbers, which fits. Assumes nothing.
 use native.Mathlib.Omega.{arith}
-use Rattle.report_text.proofs.TextLaws.{room-as, put-as}
+use Rattle.text.proofs.TextLaws.{room-as, put-as}
 use Rattle.report_text.proofs.LengthLaws.{refused-fits}
 use Rattle.report_text.proofs.ReportLaws.{refused-line}
 use borrow.Author.Needs.{needs}

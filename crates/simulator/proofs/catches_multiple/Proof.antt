@@ -2,7 +2,7 @@
 use mathlib.Core.Path.{ap, sym, _∙_}
 use Rattle.refusals.specs.Checks.{found}
 use Rattle.refusals.proofs.Tables.{refused-all, fine-all}
-use Rattle.simulator.specs.Multiple.{multipleRows}
+use Rattle.simulator.specs.Rules.{multipleRows}
 use Rattle.simulator.proofs.RuleLaws.{multiple-ok}
 use borrow.Author.Needs.{needs}
 use Rattle.simulator.proofs.catches_multiple.Statement.{statement}

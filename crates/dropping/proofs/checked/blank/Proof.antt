@@ -1,6 +1,6 @@
 -- `dropping::checked::blank` meets its contract: all four fields are 0. Assumes nothing.
 use mathlib.Core.Path.{refl}
-use Rattle.simulator.specs.Rules.{noFault}
+use Rattle.faults.specs.Records.{noFault}
 use Rattle.dropping.proofs.checked.blank.Statement.{statement}
 use Rattle.dropping.proofs.checked.blank.Tie as tie
 

@@ -5,8 +5,8 @@ use mathlib.Core.Path.{_≡_, refl, ap, sym, _∙_}
 use native.Mathlib.Omega.{arith}
 use lib.ListN.{length}
 use Rattle.circuit.specs.Gates.{gatesOf}
-use Rattle.simulator.specs.Rules.{faultsOf}
-use Rattle.simulator.proofs.RecordLaws.{records-count}
+use Rattle.faults.specs.Records.{faultsOf}
+use Rattle.faults.proofs.RecordLaws.{records-count}
 use Rattle.dropping.specs.Dropping.{numbersOf}
 use Rattle.dropping.proofs.PlainLaws.{numbers-faults}
 use Rattle.dropping.proofs.DropLaws.{Going, start, long, below, fault-here, on, as-is, done-number, done-list}

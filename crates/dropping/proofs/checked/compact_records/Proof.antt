@@ -30,8 +30,8 @@ use borrow.Table.Row.{lease, sBool, sInt, sPtr, valS}
 use borrow.Table.Rows.{sc-here}
 use Rattle.circuit.specs.Gates.{gatesOf}
 use Rattle.circuit.specs.declared.Gate.{Gate}
-use Rattle.simulator.specs.Rules.{noFault}
-use Rattle.simulator.specs.declared.Fault.{Fault}
+use Rattle.faults.specs.Records.{noFault}
+use Rattle.faults.specs.declared.Fault.{Fault}
 use Rattle.dropping.specs.Records.{staysAt}
 use Rattle.dropping.proofs.DropLaws.{Going, start, long, below, fault-here, stays-is, on, as-is as going-as, done-number, done-list}
 use Rattle.walk.proofs.Walk.{Model, Code, Knows, is, word, words-at, mut-len, mut-ptr, shr-all, shr-stays, _⨾_, then, last, free, skips}

@@ -6,7 +6,8 @@ use lib.ListN.{set}
 use borrow.Author.Needs.{needs}
 use Rattle.basics.specs.Choice.{count}
 use Rattle.circuit.specs.Gates.{gatesOf}
-use Rattle.simulator.specs.Rules.{isFault, faultsOf}
+use Rattle.faults.specs.Rules.{isFault}
+use Rattle.faults.specs.Records.{faultsOf}
 use Rattle.dropping.proofs.DropLaws.{stays-is, taken-caught, taken-stays}
 use Rattle.dropping.proofs.checked.take_record.Statement.{statement}
 use Rattle.dropping.proofs.checked.take_record.Tie as tie

@@ -28,8 +28,8 @@ use borrow.Table.Rows.{sc-here, sslice}
 use Rattle.refusals.proofs.Places.{bad-found, bad-passed, bad-end}
 use Rattle.refusals.specs.Places.{firstBad, firstBadFrom}
 use Rattle.circuit.specs.Gates.{gatesOf}
-use Rattle.simulator.specs.Rules.{noFault}
-use Rattle.simulator.specs.declared.Fault.{Fault}
+use Rattle.faults.specs.Records.{noFault}
+use Rattle.faults.specs.declared.Fault.{Fault}
 use Rattle.dropping.specs.Rules.{badRecord}
 use Rattle.walk.proofs.Walk.{Model, Code, Knows, is, word, words-at, shr-len, shr-ptr, shr-all, shr-stays, _⨾_, then, free, skips, exits}
 use Rattle.walk.proofs.Walk.{returns, branch, turns, calls, sets, op, looks, copies, gone, held, reads, let-go, yields, same-slots}

@@ -11,9 +11,9 @@ use borrow.Author.Tests.{eq-eqb, ne-eqb}
 use Rattle.refusals.specs.Places.{firstBadFrom}
 use Rattle.refusals.proofs.Places.{bad-found, bad-passed, bad-end}
 use Rattle.circuit.specs.Gates.{gatesOf}
-use Rattle.simulator.specs.Rules.{noFault, faultsOf, firstBadRecord}
+use Rattle.faults.specs.Records.{noFault, faultsOf, firstBadRecord}
 use Rattle.dropping.specs.Rules.{badRecord}
-use Rattle.simulator.proofs.RecordLaws.{records-count}
+use Rattle.faults.proofs.RecordLaws.{records-count}
 use Rattle.dropping.proofs.rules.first_bad_record.Statement.{statement}
 use Rattle.dropping.proofs.rules.first_bad_record.Tie as tie
 

@@ -2,7 +2,7 @@
 use mathlib.Core.Path.{ap, sym, _∙_}
 use Rattle.circuit.specs.Gates.{gatesOf}
 use Rattle.judge.specs.Judging.{caughtBySome, verdict}
-use Rattle.judge.proofs.ClassLists.{list-one}
+use Rattle.faults.proofs.ClassLists.{list-one}
 use borrow.Author.Needs.{needs}
 use Rattle.judge.proofs.checked.judge_class.Statement.{statement}
 use Rattle.judge.proofs.checked.judge_class.Tie as tie

@@ -1,7 +1,7 @@
 -- `judge::checked::judge_levels` meets its contract: the words that its own marks make say what some vector catches. Assumes nothing.
 use mathlib.Core.Path.{refl, _∙_}
 use Rattle.circuit.specs.Gates.{gatesOf}
-use Rattle.judge.proofs.ClassLists.{list-one}
+use Rattle.faults.proofs.ClassLists.{list-one}
 use Rattle.judge.proofs.SetLaws.{set-levels}
 use borrow.Author.Needs.{needs}
 use Rattle.judge.proofs.checked.judge_levels.Statement.{statement}

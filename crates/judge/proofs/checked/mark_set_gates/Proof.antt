@@ -5,7 +5,7 @@ use native.Mathlib.Omega.{arith}
 use lib.ListN.{length, drop}
 use Rattle.basics.proofs.All.{all-at}
 use Rattle.circuit.specs.Gates.{gatesOf}
-use Rattle.judge.specs.Coverages.{markAll, gateMarks}
+use Rattle.marking.specs.Marks.{markAll, gateMarks}
 use Rattle.judge.proofs.SetLaws.{mark-all-more, mark-all-end}
 use Rattle.judge.proofs.checked.mark_set_gates.Statement.{statement}
 use Rattle.judge.proofs.checked.mark_set_gates.Tie as tie

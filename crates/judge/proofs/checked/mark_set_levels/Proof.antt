@@ -6,7 +6,7 @@ use native.Mathlib.Omega.{arith}
 use lib.ListN.{length, drop}
 use Rattle.basics.proofs.All.{all-at}
 use Rattle.circuit.specs.Gates.{gatesOf}
-use Rattle.judge.specs.Coverages.{markAll, levelMarks}
+use Rattle.marking.specs.Marks.{markAll, levelMarks}
 use Rattle.judge.proofs.SetLaws.{mark-all-more, mark-all-end}
 use Rattle.judge.proofs.checked.mark_set_levels.Statement.{statement}
 use Rattle.judge.proofs.checked.mark_set_levels.Tie as tie

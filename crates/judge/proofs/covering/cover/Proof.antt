@@ -3,7 +3,7 @@ use mathlib.Core.Path.{ap, sym, _∙_}
 use Rattle.refusals.specs.Checks.{found}
 use Rattle.refusals.proofs.Tables.{refused-all, fine-all}
 use Rattle.circuit.specs.Gates.{gatesOf}
-use Rattle.judge.specs.Classes.{classFaults}
+use Rattle.faults.specs.Classes.{classFaults}
 use Rattle.judge.specs.Coverages.{isMarked}
 use Rattle.judge.specs.Judging.{verdict}
 use Rattle.judge.specs.Rules.{judgeRows, countRows}

@@ -2,7 +2,7 @@
 use mathlib.Core.Path.{_≡_}
 use native.Mathlib.Omega.{arith}
 use borrow.Author.Tests.{le-leb, lt-leb}
-use Rattle.judge.specs.Classes.{isClass}
+use Rattle.faults.specs.Classes.{isClass}
 use Rattle.judge.specs.Rules.{classRows}
 use Rattle.judge.proofs.rules.check_class.Statement.{statement}
 use Rattle.judge.proofs.rules.check_class.Tie as tie

@@ -3,7 +3,7 @@ use mathlib.Core.Path.{ap, sym}
 use mathlib.Core.List.{_∷_}
 use borrow.Author.Needs.{needs}
 use Rattle.refusals.specs.Tables.Told.{answered}
-use Rattle.judge.specs.Answers.{toldFirst}
+use Rattle.marking.specs.Firsts.{toldFirst}
 use Rattle.judge.proofs.tallies.verdict_of.Statement.{statement}
 use Rattle.judge.proofs.tallies.verdict_of.Tie as tie
 

@@ -1,7 +1,7 @@
 -- The kinds of the parameters and of the result of `nufsadeem::nuf_drop_records`. Made by docs/walk/tools, and not written by hand.
 use Rattle.dropping.proofs.Faults as FR
-use Rattle.nufsadeem.proofs.answers.Count
-use Rattle.nufsadeem.proofs.answers.Count.Laws
+use Rattle.answers.proofs.Count
+use Rattle.answers.proofs.Count.Laws
 use borrow.Fn.Kinds
 use borrow.Kind.MutSlice
 use borrow.Kind.ShrSlice

@@ -1,7 +1,7 @@
 -- `nufsadeem::jobs::nuf_read_job` meets its contract: its fields are those of what `job::read_job` tells, and memory is as it leaves it.
 -- Assumes nothing.
 use mathlib.Core.Path.{ap, _∙_}
-use Rattle.nufsadeem.specs.Fields.{fields}
+use Rattle.answers.specs.Fields.{fields}
 use borrow.Author.Needs.{needs}
 use Rattle.nufsadeem.proofs.jobs.nuf_read_job.Statement.{statement}
 use Rattle.nufsadeem.proofs.jobs.nuf_read_job.Tie as tie

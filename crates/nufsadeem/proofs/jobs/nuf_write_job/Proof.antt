@@ -1,7 +1,7 @@
 -- `nufsadeem::jobs::nuf_write_job` meets its contract: its fields are those of what `job::write_job` tells, and memory is as it leaves it.
 -- Assumes nothing.
 use mathlib.Core.Path.{ap, _∙_}
-use Rattle.nufsadeem.specs.Fields.{fields}
+use Rattle.answers.specs.Fields.{fields}
 use borrow.Author.Needs.{needs}
 use Rattle.nufsadeem.proofs.jobs.nuf_write_job.Statement.{statement}
 use Rattle.nufsadeem.proofs.jobs.nuf_write_job.Tie as tie

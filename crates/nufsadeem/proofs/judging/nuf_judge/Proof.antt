@@ -1,6 +1,6 @@
 -- `nufsadeem::judging::nuf_judge` meets its contract: its fields are those of what `judge::judge` tells. Assumes nothing.
 use mathlib.Core.Path.{ap, _∙_}
-use Rattle.nufsadeem.specs.Fields.{fields}
+use Rattle.answers.specs.Fields.{fields}
 use borrow.Author.Needs.{needs}
 use Rattle.nufsadeem.proofs.judging.nuf_judge.Statement.{statement}
 use Rattle.nufsadeem.proofs.judging.nuf_judge.Tie as tie

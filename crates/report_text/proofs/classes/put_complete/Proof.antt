@@ -3,7 +3,7 @@ use mathlib.Core.Path.{ap}
 use mathlib.Core.Bool.{true}
 use mathlib.Core.List.{[], _∷_}
 use Rattle.report_text.specs.Parts.{numbersLine}
-use Rattle.report_text.proofs.TextLaws.{room-as, put-as}
+use Rattle.text.proofs.TextLaws.{room-as, put-as}
 use borrow.Author.Needs.{needs}
 use Rattle.report_text.proofs.classes.put_complete.Statement.{statement}
 use Rattle.report_text.proofs.classes.put_complete.Tie as tie

@@ -2,7 +2,7 @@
 use mathlib.Core.Path.{sym}
 use mathlib.Core.List.{[], _∷_}
 use lib.Seq.{length-take-le}
-use Rattle.report_text.proofs.TextLaws.{room-as, put-as}
+use Rattle.text.proofs.TextLaws.{room-as, put-as}
 use Rattle.report_text.proofs.ClassLaws.{numbers-most, left-line}
 use borrow.Author.Needs.{needs}
 use Rattle.report_text.proofs.classes.put_left.Statement.{statement}

@@ -2,7 +2,7 @@
 use mathlib.Core.Path.{ap, refl, sym}
 use native.Mathlib.Omega.{arith}
 use Rattle.report_text.specs.Parts.{verdictText}
-use Rattle.report_text.proofs.TextLaws.{room-as, put-as}
+use Rattle.text.proofs.TextLaws.{room-as, put-as}
 use borrow.Author.Needs.{needs}
 use Rattle.report_text.proofs.classes.put_verdict.Statement.{statement}
 use Rattle.report_text.proofs.classes.put_verdict.Tie as tie

@@ -5,7 +5,7 @@ use mathlib.Core.Path.{refl, _∙_}
 use native.Mathlib.Omega.{arith}
 use Rattle.circuit.specs.Gates.{gatesOf}
 use Rattle.words.proofs.Bits.{bit-le}
-use Rattle.report_text.proofs.TextLaws.{room-as, put-as}
+use Rattle.text.proofs.TextLaws.{room-as, put-as}
 use Rattle.report_text.proofs.ClassLaws.{verdict-text, not-wanted, is-wanted}
 use borrow.Author.Needs.{needs}
 use Rattle.report_text.proofs.classes.put_wanted.Statement.{statement}

@@ -3,9 +3,9 @@ use mathlib.Core.Path.{_≡_, sym, _∙_}
 use native.Mathlib.Omega.{arith}
 use Rattle.circuit.specs.Gates.{gatesOf, gateAt}
 use Rattle.circuit.specs.Controls.{lessControl}
-use Rattle.simulator.proofs.FaultLaws.{stuck-caught, missing-gate-caught, missing-control-caught, extra-control-caught}
-use Rattle.simulator.proofs.RuleLaws.{class-last}
-use Rattle.simulator.proofs.ClassLaws.{stuck-fault, names-gate, names-line, is-missing, is-extra}
+use Rattle.simulator.proofs.FaultyLaws.{stuck-caught, missing-gate-caught, missing-control-caught, extra-control-caught}
+use Rattle.faults.proofs.RuleLaws.{class-last}
+use Rattle.faults.proofs.ClassLaws.{stuck-fault, names-gate, names-line, is-missing, is-extra}
 use borrow.Author.Needs.{needs}
 use Rattle.simulator.proofs.checked.catches.Statement.{statement}
 use Rattle.simulator.proofs.checked.catches.Tie as tie

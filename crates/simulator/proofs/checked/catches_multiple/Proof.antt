@@ -1,5 +1,5 @@
 -- `simulator::checked::catches_multiple` meets its contract: the output with all lines stuck is compared with the good one. Assumes nothing.
-use Rattle.simulator.specs.Multiple.{caughtTogether}
+use Rattle.simulator.specs.Faulty.{caughtTogether}
 use borrow.Author.Needs.{needs}
 use Rattle.simulator.proofs.checked.catches_multiple.Statement.{statement}
 use Rattle.simulator.proofs.checked.catches_multiple.Tie as tie

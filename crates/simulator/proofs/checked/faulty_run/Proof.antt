@@ -5,10 +5,10 @@ use mathlib.Core.Path.{_≡_, sym, _∙_}
 use native.Mathlib.Omega.{arith}
 use Rattle.circuit.specs.Gates.{gatesOf, gateAt}
 use Rattle.circuit.specs.Controls.{lessControl, moreControl}
-use Rattle.simulator.proofs.FaultLaws.{faulty-stuck, stuck-one, faulty-missing-gate, run-without, faulty-missing-control, faulty-extra-control}
-use Rattle.simulator.proofs.FaultLaws.{run-changed}
-use Rattle.simulator.proofs.RuleLaws.{class-last}
-use Rattle.simulator.proofs.ClassLaws.{stuck-fault, names-gate, names-line, less-target, more-target}
+use Rattle.simulator.proofs.FaultyLaws.{faulty-stuck, stuck-one, faulty-missing-gate, run-without, faulty-missing-control, faulty-extra-control}
+use Rattle.simulator.proofs.FaultyLaws.{run-changed}
+use Rattle.faults.proofs.RuleLaws.{class-last}
+use Rattle.faults.proofs.ClassLaws.{stuck-fault, names-gate, names-line, less-target, more-target}
 use borrow.Author.Needs.{needs}
 use Rattle.simulator.proofs.checked.faulty_run.Statement.{statement}
 use Rattle.simulator.proofs.checked.faulty_run.Tie as tie

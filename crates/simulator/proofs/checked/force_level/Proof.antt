@@ -5,9 +5,9 @@ use Prim.Native.Nat.{_+_, _-_}
 use mathlib.Core.Path.{_≡_, refl, ap, sym, _∙_}
 use native.Mathlib.Omega.{arith}
 use lib.ListN.{drop}
-use Rattle.simulator.specs.Faults.{forceAt}
-use Rattle.simulator.specs.Rules.{faultsOf}
-use Rattle.simulator.proofs.RecordLaws.{records-count}
+use Rattle.simulator.specs.Faulty.{forceAt}
+use Rattle.faults.specs.Records.{faultsOf}
+use Rattle.faults.proofs.RecordLaws.{records-count}
 use Rattle.simulator.proofs.StuckLaws.{force-more, force-end, entry-line}
 use Rattle.simulator.proofs.checked.force_level.Statement.{statement}
 use Rattle.simulator.proofs.checked.force_level.Tie as tie

@@ -1,7 +1,6 @@
 -- `simulator::checked::run_stuck` meets its contract: each turn forces the lines of the level reached in the faulty state alone, and both states
 -- take the gate that reads it. Assumes nothing.
-use Prim.Native.Nat.{_/_}
-use Prim.Native.Nat.{_+_, _-_, _≤_}
+use Prim.Native.Nat.{_/_, _+_, _-_, _≤_}
 use mathlib.Core.Path.{_≡_, refl, ap, sym, _∙_}
 use native.Mathlib.Omega.{arith}
 use lib.ListN.{length, drop}
@@ -11,8 +10,8 @@ use Rattle.circuit.specs.Runs.{step, forward}
 use Rattle.circuit.proofs.GateLaws.{gates-count, gate-entry}
 use Rattle.circuit.proofs.RuleLaws.{target-fits}
 use Rattle.circuit.proofs.RunLaws.{forward-none, forward-all}
-use Rattle.simulator.specs.Faults.{stuckRun}
-use Rattle.simulator.specs.Rules.{faultsOf}
+use Rattle.simulator.specs.Faulty.{stuckRun}
+use Rattle.faults.specs.Records.{faultsOf}
 use Rattle.simulator.proofs.StuckLaws.{stuck-more, stuck-end, good-more}
 use Rattle.simulator.proofs.checked.run_stuck.Statement.{statement}
 use Rattle.simulator.proofs.checked.run_stuck.Tie as tie

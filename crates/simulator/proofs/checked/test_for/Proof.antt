@@ -4,7 +4,7 @@ use Prim.Native.Nat.{_-_}
 use mathlib.Core.Path.{_≡_, sym, _∙_}
 use native.Mathlib.Omega.{arith}
 use Rattle.simulator.specs.Tests.{testLevel, testFor}
-use Rattle.simulator.proofs.ClassLaws.{stuck-fault, names-gate, names-line}
+use Rattle.faults.proofs.ClassLaws.{stuck-fault, names-gate, names-line}
 use Rattle.simulator.proofs.TestLaws.{level-stuck, level-gate}
 use borrow.Author.Needs.{needs}
 use Rattle.simulator.proofs.checked.test_for.Statement.{statement}

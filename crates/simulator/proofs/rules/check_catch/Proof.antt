@@ -5,7 +5,8 @@ use Rattle.refusals.proofs.Tables.{refused-on, fine-on}
 use mathlib.Core.List.{_++_}
 use Rattle.circuit.specs.Rules.{circuitRows, vectorRows}
 use Rattle.circuit.proofs.RuleLaws.{vector-ok}
-use Rattle.simulator.specs.Rules.{faultRows, catchRows}
+use Rattle.faults.specs.Rules.{faultRows}
+use Rattle.simulator.specs.Rules.{catchRows}
 use borrow.Author.Needs.{needs}
 use Rattle.simulator.proofs.rules.check_catch.Statement.{statement}
 use Rattle.simulator.proofs.rules.check_catch.Tie as tie

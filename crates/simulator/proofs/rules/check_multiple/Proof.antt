@@ -6,7 +6,8 @@ use Rattle.refusals.specs.Checks.{fine, found}
 use Rattle.refusals.proofs.Tables.{refused-on, fine-on}
 use Rattle.circuit.specs.Rules.{circuitRows, vectorRows}
 use Rattle.circuit.proofs.RuleLaws.{vector-ok}
-use Rattle.simulator.specs.Multiple.{entriesRows, multipleRows}
+use Rattle.faults.specs.Multiple.{entriesRows}
+use Rattle.simulator.specs.Rules.{multipleRows}
 use borrow.Author.Needs.{needs}
 use Rattle.simulator.proofs.rules.check_multiple.Statement.{statement}
 use Rattle.simulator.proofs.rules.check_multiple.Tie as tie

@@ -4,7 +4,8 @@ use Rattle.refusals.specs.Checks.{fine, found}
 use Rattle.refusals.proofs.Tables.{refused-on, fine-on}
 use Rattle.circuit.specs.Rules.{circuitRows}
 use Rattle.circuit.proofs.RuleLaws.{sound}
-use Rattle.simulator.specs.Rules.{faultRows, testRows}
+use Rattle.faults.specs.Rules.{faultRows}
+use Rattle.simulator.specs.Rules.{testRows}
 use borrow.Author.Needs.{needs}
 use Rattle.simulator.proofs.rules.check_test.Statement.{statement}
 use Rattle.simulator.proofs.rules.check_test.Tie as tie

@@ -4,7 +4,7 @@ use Prim.Native.Nat.{_*_, _≤_, _<_}
 use mathlib.Core.Path.{ap}
 use lib.ListN.{length}
 use Rattle.testsets.specs.Sets.{bound}
-use Rattle.testsets.proofs.SiteLaws.{site-count-le}
+use Rattle.faults.proofs.SiteCount.{site-count-le}
 use Rattle.testsets.proofs.Picks.{compact-few}
 use native.Mathlib.Omega.{arith}
 use borrow.Author.Needs.{needs}

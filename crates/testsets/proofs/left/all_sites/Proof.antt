@@ -6,7 +6,7 @@ use native.Mathlib.Omega.{arith}
 use borrow.Author.Needs.{needs}
 use Rattle.circuit.specs.Gates.{gatesOf}
 use Rattle.circuit.proofs.GateLaws.{gates-count}
-use Rattle.simulator.specs.Sites.{sites}
+use Rattle.faults.specs.Sites.{sites}
 use Rattle.testsets.proofs.Changes.{Changed, changed-none, changed-more}
 use Rattle.testsets.proofs.left.all_sites.Statement.{statement}
 use Rattle.testsets.proofs.left.all_sites.Tie as tie

@@ -2,7 +2,7 @@
 use native.Mathlib.Omega.{arith}
 use Rattle.testsets.specs.Sets.{bound}
 use Rattle.testsets.proofs.Log2Laws.{log2-le-self}
-use Rattle.testsets.proofs.SiteLaws.{site-count-le, site-count-some}
+use Rattle.faults.proofs.SiteCount.{site-count-le, site-count-some}
 use borrow.Author.Needs.{needs}
 use Rattle.testsets.proofs.rules.bound.Statement.{statement}
 use Rattle.testsets.proofs.rules.bound.Tie as tie

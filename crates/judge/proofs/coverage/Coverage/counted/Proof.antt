@@ -2,7 +2,7 @@
 use mathlib.Core.Path.{_≡_, refl, sym, _∙_}
 use native.Mathlib.Omega.{arith}
 use Rattle.circuit.specs.Gates.{gatesOf}
-use Rattle.judge.proofs.ClassLists.{list-one}
+use Rattle.faults.proofs.ClassLists.{list-one}
 use Rattle.judge.proofs.SetLaws.{verdict-levels, verdict-gates, verdict-controls, verdict-extras}
 use borrow.Author.Needs.{needs}
 use Rattle.judge.proofs.coverage.Coverage.counted.Statement.{statement}

@@ -1,0 +1,21 @@
+-- What the entries of a multiple fault that breaks no rule are.
+use Prim.Native.Nat.{ℕ, _*_, _≤_, _<_}
+use mathlib.Core.Path.{_≡_}
+use mathlib.Core.List.{List}
+use lib.ListN.{length}
+use Rattle.basics.specs.Lists.{All}
+use Rattle.circuit.specs.declared.Gate.{Gate}
+use Rattle.faults.specs.Records.{faultsOf}
+use Rattle.faults.specs.declared.Fault.{Fault}
+
+-- a line stuck at a level of a circuit of n lines and d gates
+pub record StuckOk (n d : ℕ) (f : Fault) : Type 0 where
+  pub class-is : f .class ≡ 1
+  pub place-in : f .place ≤ d
+  pub line-in : f .line < n
+  pub value-in : f .value ≤ 1
+
+-- no word left over, and every record a stuck line of the circuit
+pub record Entries (n : ℕ) (gs : List Gate) (list : List ℕ) : Type 0 where
+  pub whole : length list ≡ 4 * length (faultsOf list)
+  pub entries-ok : All (StuckOk n (length gs)) (faultsOf list)

@@ -1,0 +1,29 @@
+// Where a line can be stuck: the sites of each level, and their number.
+ghost use mathlib.Core.Path.{_≡_};
+ghost use Rattle.circuit.specs.Gates.{gatesOf};
+ghost use Rattle.circuit.specs.Sound.{Sound};
+ghost use Rattle.faults.specs.Sites.{sites, siteCount};
+use words;
+
+// The lines that are sites at a level: all of them.
+pub fn sites_at(lines: u32, gates: &[u32], level: u32) -> u32
+    requires { ⌜ Sound lines (now gates) ⌝ }
+    ensures { λ r. ⌜ r ≡ sites lines (gatesOf (now (gates .entry))) level ⌝ }
+{
+    words::checked::all_ones(lines)
+}
+
+// The number of sites, over all levels.
+pub fn site_count(lines: u32, gates: &[u32]) -> u32
+    requires { ⌜ Sound lines (now gates) ⌝ }
+    ensures { λ r. ⌜ r ≡ siteCount lines (gatesOf (now (gates .entry))) ⌝ }
+{
+    let end = gates.len() / 3 + 1;
+    let mut sum = 0;
+    let mut i = 0;
+    while i < end {
+        sum += words::ones(sites_at(lines, gates, i as u32));
+        i += 1;
+    }
+    sum
+}

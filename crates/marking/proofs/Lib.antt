@@ -1,0 +1,6 @@
+pub mod Counting
+pub mod MarkLaws
+pub mod MarkedLaws
+pub mod TurnLaws
+pub mod TallyLaws
+pub mod FirstLaws
