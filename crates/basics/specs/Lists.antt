@@ -2,6 +2,7 @@
 use Prim.Native.Nat.{ℕ, zero, suc}
 use mathlib.Core.Bool.{Bool, false, _||_}
 use mathlib.Core.List.{List, [], _∷_, _++_}
+use lib.ListN.{length, drop}
 use Rattle.basics.specs.Choice.{choice}
 
 -- a, a + 1, .., of them k
@@ -28,3 +29,7 @@ some p (a ∷ ys) = p a || some p ys
 abbrev pub All {ℓ} : {A : Type ℓ} → (A → Type 0) → List A → Type 0
 All P [] = Unit {0}
 All P (a ∷ ys) = P a × All P ys
+
+-- what was made, then the old contents from there on
+abbrev pub onto {ℓ} : {A : Type ℓ} → List A → List A → List A
+onto made old = made ++ drop (length made) old
