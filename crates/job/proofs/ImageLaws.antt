@@ -8,14 +8,14 @@ use lib.Seq.{sets, take-at}
 use Rattle.basics.specs.Lists.{each}
 use Rattle.basics.proofs.Lists.{length-each}
 use Rattle.job.specs.Bytes.{bytesOf, numberAt, wordsAt}
-use Rattle.job.specs.Image.{header, fieldBytes, gateCount, image, gatesIn, vectorsIn, gateWords, vectorWords}
+use Rattle.job.specs.Image.{header, rowBytes, gateCount, image, gatesIn, vectorsIn, gateWords, vectorWords}
 use Rattle.basics.proofs.PutLaws.{sets-append, sets-front}
 use Rattle.job.proofs.ByteLaws.{length-bytes, length-words}
 
 -- ---- lengths
 
-pub length-header : (n k d m : ℕ) → length (each fieldBytes (header n k d m)) ≡ 28
-unfolding header fieldBytes each bytesOf
+pub length-header : (n k d m : ℕ) → length (each rowBytes (header n k d m)) ≡ 28
+unfolding header rowBytes each bytesOf
 length-header n k d m = refl
 
 pub length-words-bytes : (words : List ℕ) → length (each (bytesOf 4) words) ≡ 4 * length words
@@ -24,7 +24,7 @@ length-words-bytes words = length-each (bytesOf 4) 4 (length-bytes 4) words ∙ 
 pub length-image : (n k : ℕ) (words xs : List ℕ) → length (image n k words xs) ≡ 28 + 4 * length words + 4 * length xs
 unfolding image
 length-image n k words xs =
-    let front : List ℕ = each fieldBytes (header n k (gateCount words) (length xs)) in
+    let front : List ℕ = each rowBytes (header n k (gateCount words) (length xs)) in
     omega (
       arith,
       length-append front (each (bytesOf 4) words ++ each (bytesOf 4) xs),
@@ -39,17 +39,17 @@ length-image n k words xs =
 pub put-header : (l : List ℕ) (n k d m : ℕ)
     → sets (sets (sets (sets (sets l 0 (bytesOf 2 1)) 2 (bytesOf 2 n)) 4 (bytesOf 2 k)) 6 (bytesOf 2 0)) 8
     (each (bytesOf 4) (d ∷ m ∷ 28 ∷ (28 + 12 * d) ∷ (28 + 12 * d + 4 * m) ∷ []))
-    ≡ sets l 0 (each fieldBytes (header n k d m))
-unfolding header fieldBytes each bytesOf
+    ≡ sets l 0 (each rowBytes (header n k d m))
+unfolding header rowBytes each bytesOf
 put-header l n k d m = refl
 
 pub put-image : (l : List ℕ) (n k : ℕ) (words xs : List ℕ) → length (image n k words xs) ≤ length l
-    → sets (sets (sets l 0 (each fieldBytes (header n k (gateCount words) (length xs)))) 28 (each (bytesOf 4) words)) (28 + 4 * length words)
+    → sets (sets (sets l 0 (each rowBytes (header n k (gateCount words) (length xs)))) 28 (each (bytesOf 4) words)) (28 + 4 * length words)
     (each (bytesOf 4) xs)
     ≡ image n k words xs ++ drop (length (image n k words xs)) l
 unfolding image
 put-image l n k words xs h =
-    let front : List ℕ = each fieldBytes (header n k (gateCount words) (length xs)) in
+    let front : List ℕ = each rowBytes (header n k (gateCount words) (length xs)) in
     let e = length-header n k (gateCount words) (length xs) in
     sets-append (sets l 0 front) 28 (28 + 4 * length words) (each (bytesOf 4) words) (each (bytesOf 4) xs) (omega (arith, length-words-bytes words))
     ∙ sets-append l 0 28 front (each (bytesOf 4) words ++ each (bytesOf 4) xs) (omega arith)

@@ -12,11 +12,11 @@ use Rattle.refusals.specs.Tables.{firstOf}
 use Rattle.refusals.specs.Checks.{fine}
 use Rattle.circuit.specs.Rules.{firstBadGate, firstBadVector}
 use Rattle.job.specs.Bytes.{bytesOf, wordsAt}
-use Rattle.job.specs.Image.{header, fieldBytes, gateCount, image, linesIn, classesIn, gatesIn, vectorsIn, gateWords, vectorWords}
+use Rattle.job.specs.Image.{header, rowBytes, gateCount, image, linesIn, classesIn, gatesIn, vectorsIn, gateWords, vectorWords}
 use Rattle.job.specs.Rules.{readRows, writeRows}
 use Rattle.job.proofs.ByteLaws.{length-words}
 use Rattle.job.proofs.ImageLaws.{length-header, length-words-bytes, length-image}
-use Rattle.job.proofs.NumberLaws.{Bytes, Placed, Stands, fields-there, words-there, words-on, fields-on}
+use Rattle.job.proofs.NumberLaws.{Bytes, Placed, Stands, rows-there, words-there, words-on, rows-on}
 use Rattle.job.proofs.FitLaws.{gates-fit, gates-whole, vectors-fit}
 use Rattle.job.proofs.RuleLaws.{HeaderOk, ReadOk, JobOk, read-ok, ok-read, write-ok}
 
@@ -36,10 +36,10 @@ module _ (n k : ℕ) (words xs : List ℕ) (ok : JobOk n k words xs) where
   unfolding header
   placed = search needs
 
-  -- every field of the header stands at its place
+  -- every row of the header stands at its place
   pub header-stands : All (Stands (image n k words xs)) (header n k (gateCount words) (length xs))
   unfolding image
-  header-stands = fields-there (header n k (gateCount words) (length xs)) [] (each (bytesOf 4) words ++ each (bytesOf 4) xs) 0 refl placed
+  header-stands = rows-there (header n k (gateCount words) (length xs)) [] (each (bytesOf 4) words ++ each (bytesOf 4) xs) 0 refl placed
 
   image-gates : gatesIn (image n k words xs) ≡ gateCount words
   unfolding gatesIn header
@@ -54,14 +54,14 @@ module _ (n k : ℕ) (words xs : List ℕ) (ok : JobOk n k words xs) where
   image-gate-words =
       let e : 3 * gatesIn (image n k words xs) ≡ length words = omega (arith, image-gates, gates-whole n words (ok .gates-good)) in
       ap (λ c. wordsAt c (image n k words xs) 28) e
-      ∙ words-there (each fieldBytes (header n k (gateCount words) (length xs))) words (each (bytesOf 4) xs) 28
+      ∙ words-there (each rowBytes (header n k (gateCount words) (length xs))) words (each (bytesOf 4) xs) 28
       (length-header n k (gateCount words) (length xs))
       (gates-fit n words (ok .gates-good) (ok .lines-fit))
 
   image-vector-words : vectorWords (image n k words xs) ≡ xs
   unfolding vectorWords image
   image-vector-words =
-      let front : List ℕ = each fieldBytes (header n k (gateCount words) (length xs)) in
+      let front : List ℕ = each rowBytes (header n k (gateCount words) (length xs)) in
       let gs : List ℕ = each (bytesOf 4) words in
       let vs : List ℕ = each (bytesOf 4) xs in
       let at : length (front ++ gs) ≡ 28 + 12 * gatesIn (image n k words xs) =
@@ -149,10 +149,10 @@ module _ (bytes : List ℕ) (h : HeaderOk bytes) (w : Bytes bytes) where
       ap (λ r. each (bytesOf 4) (gateWords bytes) ++ r) vectors-back
       ∙ words-on (3 * gatesIn bytes) bytes 28 (28 + 12 * gatesIn bytes) w (omega arith) (omega arith)
 
-  header-back : each fieldBytes (header (linesIn bytes) (classesIn bytes) (gatesIn bytes) (vectorsIn bytes)) ++ drop 28 bytes ≡ bytes
+  header-back : each rowBytes (header (linesIn bytes) (classesIn bytes) (gatesIn bytes) (vectorsIn bytes)) ++ drop 28 bytes ≡ bytes
   unfolding header linesIn classesIn gatesIn vectorsIn
   header-back =
-      fields-on bytes (header (linesIn bytes) (classesIn bytes) (gatesIn bytes) (vectorsIn bytes)) 0 28 w
+      rows-on bytes (header (linesIn bytes) (classesIn bytes) (gatesIn bytes) (vectorsIn bytes)) 0 28 w
       (h .form, (refl, (refl, (h .nothing, (refl, (refl, (h .gates-at, (h .vectors-at, (h .end-at, refl)))))))))
       (h .long)
 
@@ -176,7 +176,7 @@ written-read bytes gateRoom vectorRoom w e =
     let h = read-ok bytes gateRoom vectorRoom e .head in
     let d = gate-count bytes in
     let m = vector-count bytes in
-    rw (d, m) (ap (λ r. each fieldBytes (header (linesIn bytes) (classesIn bytes) (gatesIn bytes) (vectorsIn bytes)) ++ r)
+    rw (d, m) (ap (λ r. each rowBytes (header (linesIn bytes) (classesIn bytes) (gatesIn bytes) (vectorsIn bytes)) ++ r)
     (content-back bytes h w) ∙ header-back bytes h w)
 
 -- Two jobs that break no rule and have the same image are the same job.

@@ -5,31 +5,32 @@ use lib.ListN.{length}
 use Rattle.basics.specs.Lists.{each}
 use Rattle.job.specs.Bytes.{bytesOf, numberAt, wordsAt}
 
--- a field of the header: where it stands, how wide it is and what it holds
-pub data Field : Type 0 where
-  field : ℕ → ℕ → ℕ → Field
+infix 68 byte_wide_holds_
+-- a row of the header: at which byte it stands, how many bytes wide it is, and what it holds
+pub data HeaderRow : Type 0 where
+  byte_wide_holds_ : ℕ → ℕ → ℕ → HeaderRow
 
 -- the header of a job of n lines, some classes, d gates and m vectors
-unfoldable pub header : ℕ → ℕ → ℕ → ℕ → List Field
+unfoldable pub header : ℕ → ℕ → ℕ → ℕ → List HeaderRow
 header n classes d m =
     -- form
-    field 0 2 1 ∷
+    byte 0 wide 2 holds 1 ∷
     -- lines
-    field 2 2 n ∷
+    byte 2 wide 2 holds n ∷
     -- classes wanted
-    field 4 2 classes ∷
+    byte 4 wide 2 holds classes ∷
     -- nothing
-    field 6 2 0 ∷
+    byte 6 wide 2 holds 0 ∷
     -- gates, vectors
-    field 8 4 d ∷
-    field 12 4 m ∷
+    byte 8 wide 4 holds d ∷
+    byte 12 wide 4 holds m ∷
     -- offset of gates, offset of vectors, length of all
-    field 16 4 28 ∷
-    field 20 4 (28 + 12 * d) ∷
-    field 24 4 (28 + 12 * d + 4 * m) ∷ []
+    byte 16 wide 4 holds 28 ∷
+    byte 20 wide 4 holds (28 + 12 * d) ∷
+    byte 24 wide 4 holds (28 + 12 * d + 4 * m) ∷ []
 
-unfoldable pub fieldBytes : Field → List ℕ
-fieldBytes (field at width value) = bytesOf width value
+unfoldable pub rowBytes : HeaderRow → List ℕ
+rowBytes (byte at wide width holds value) = bytesOf width value
 
 -- the number of whole gates in a list of words
 unfoldable pub gateCount : List ℕ → ℕ
@@ -37,7 +38,7 @@ gateCount words = length words / 3
 
 -- the image of a job
 unfoldable pub image : ℕ → ℕ → List ℕ → List ℕ → List ℕ
-image n classes words xs = each fieldBytes (header n classes (gateCount words) (length xs)) ++ (each (bytesOf 4) words ++ each (bytesOf 4) xs)
+image n classes words xs = each rowBytes (header n classes (gateCount words) (length xs)) ++ (each (bytesOf 4) words ++ each (bytesOf 4) xs)
 
 -- what a job image holds, wherever its bytes come from
 unfoldable pub linesIn : List ℕ → ℕ

@@ -5,13 +5,13 @@ ghost use Prim.Native.Nat.{_≤_};
 ghost use lib.ListN.{length, drop};
 ghost use lib.Seq.{sets};
 ghost use Rattle.basics.specs.Lists.{each};
-ghost use Rattle.job.specs.Image.{header, fieldBytes, gateCount, image};
+ghost use Rattle.job.specs.Image.{header, rowBytes, gateCount, image};
 use crate::bytes;
 
 // The header of a job.
 fn put_header(out: &mut [u8], lines: u32, classes: u32, gates: u32, vectors: u32)
     requires { ⌜ (28 ≤ length (now out)) × ((gates ≤ 1024) × (vectors ≤ 2048)) ⌝ }
-    ensures { λ _. ⌜ now (out .exit) ≡ sets (now (out .entry)) 0 (each fieldBytes (header lines classes gates vectors)) ⌝ }
+    ensures { λ _. ⌜ now (out .exit) ≡ sets (now (out .entry)) 0 (each rowBytes (header lines classes gates vectors)) ⌝ }
 {
     bytes::put_2(out, 0, 1);
     bytes::put_2(out, 2, lines);

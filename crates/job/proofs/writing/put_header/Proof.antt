@@ -1,4 +1,4 @@
--- `job::writing::put_header` meets its contract: four numbers of 2 bytes and five of 4 are the fields of the header. Assumes nothing.
+-- `job::writing::put_header` meets its contract: four numbers of 2 bytes and five of 4 are the rows of the header. Assumes nothing.
 use Rattle.job.proofs.ImageLaws.{put-header}
 use borrow.Author.Needs.{needs}
 use Rattle.job.proofs.writing.put_header.Statement.{statement}
