@@ -7,7 +7,14 @@ use nufsadeem::{report, Class, Job};
 use std::error::Error;
 use std::io::Read;
 
-fn main() -> Result<(), Box<dyn Error>> {
+fn main() {
+    if let Err(error) = complete() {
+        eprintln!("{}", error);
+        std::process::exit(1);
+    }
+}
+
+fn complete() -> Result<(), Box<dyn Error>> {
     let mut bytes = Vec::new();
     std::io::stdin().read_to_end(&mut bytes)?;
     let mut job = Job::read(&bytes)?;
