@@ -66,6 +66,14 @@ pub vector-words : (bytes : List ℕ) (count at : ℕ) → count ≡ vectorsIn b
 unfolding vectorWords
 vector-words bytes count at e p = rw (e, p)
 
+pub length-gate-words : (bytes : List ℕ) → length (gateWords bytes) ≡ 3 * gatesIn bytes
+unfolding gateWords
+length-gate-words bytes = length-words (3 * gatesIn bytes) bytes 28
+
+pub length-vector-words : (bytes : List ℕ) → length (vectorWords bytes) ≡ vectorsIn bytes
+unfolding vectorWords
+length-vector-words bytes = length-words (vectorsIn bytes) bytes (28 + 12 * gatesIn bytes)
+
 -- the front of a list that they were read into
 pub gates-front : (bytes out rest : List ℕ) (d : ℕ) → out ≡ gateWords bytes ++ rest → d ≡ numberAt 4 bytes 8 → take (3 * d) out ≡ gateWords bytes
 unfolding gateWords gatesIn

@@ -3,3 +3,4 @@ pub mod Image
 pub mod Rules
 pub mod Parts
 pub mod Answers
+pub mod Promises

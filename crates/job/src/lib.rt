@@ -1,12 +1,8 @@
 // The job image: jobs read out of bytes and written into bytes.
 ghost use mathlib.Core.Path.{_≡_};
-ghost use mathlib.Core.List.{[], _∷_, _++_};
-ghost use Prim.Native.Nat.{_*_, _≤_};
-ghost use lib.ListN.{length, drop};
-ghost use Rattle.refusals.specs.Tables.{firstOf, after};
-ghost use Rattle.refusals.specs.Tables.Told.{answered};
-ghost use Rattle.job.specs.Image.{image, linesIn, classesIn, gatesIn, vectorsIn, gateWords, vectorWords};
-ghost use Rattle.job.specs.Rules.{readRows, writeRows};
+ghost use Prim.Native.Nat.{_≤_};
+ghost use lib.ListN.{length};
+ghost use Rattle.job.specs.Promises.{readTells, gatesAfterRead, vectorsAfterRead, writeTells, roomAfterWrite};
 ghost use Rattle.job.specs.Answers.{toldRead, toldWritten};
 use refusals::Checked;
 use refusals::Refusal;
@@ -35,18 +31,9 @@ pub enum Written {
 
 // A job out of bytes, into the fronts of two lists. A refused call changes nothing.
 pub fn read_job(bytes: &[u8], gates: &mut [u32], vectors: &mut [u32]) -> Read
-    ensures { λ r. ⌜ (toldRead r ≡ firstOf
-        (readRows (now (bytes .entry)) (length (now (gates .entry))) (length (now (vectors .entry))))
-        (answered (linesIn (now (bytes .entry)) ∷ classesIn (now (bytes .entry))
-        ∷ gatesIn (now (bytes .entry)) ∷ vectorsIn (now (bytes .entry)) ∷ [])))
-        × ((now (gates .exit) ≡ after
-        (readRows (now (bytes .entry)) (length (now (gates .entry))) (length (now (vectors .entry))))
-        (gateWords (now (bytes .entry)) ++ drop (3 * gatesIn (now (bytes .entry))) (now (gates .entry)))
-        (now (gates .entry)))
-        × (now (vectors .exit) ≡ after
-        (readRows (now (bytes .entry)) (length (now (gates .entry))) (length (now (vectors .entry))))
-        (vectorWords (now (bytes .entry)) ++ drop (vectorsIn (now (bytes .entry))) (now (vectors .entry)))
-        (now (vectors .entry)))) ⌝ }
+    ensures { λ r. ⌜ (toldRead r ≡ readTells (now (bytes .entry)) (now (gates .entry)) (now (vectors .entry)))
+        × ((now (gates .exit) ≡ gatesAfterRead (now (bytes .entry)) (now (gates .entry)) (now (vectors .entry)))
+        × (now (vectors .exit) ≡ vectorsAfterRead (now (bytes .entry)) (now (gates .entry)) (now (vectors .entry)))) ⌝ }
 {
     let mut own_gates = [0u32; 3072];
     let mut own_vectors = [0u32; 2048];
@@ -62,18 +49,9 @@ fn read_by_own(
     vectors: &mut [u32],
 ) -> Read
     requires { ⌜ (3072 ≤ length (now «own_gates»)) × (2048 ≤ length (now «own_vectors»)) ⌝ }
-    ensures { λ r. ⌜ (toldRead r ≡ firstOf
-        (readRows (now (bytes .entry)) (length (now (gates .entry))) (length (now (vectors .entry))))
-        (answered (linesIn (now (bytes .entry)) ∷ classesIn (now (bytes .entry))
-        ∷ gatesIn (now (bytes .entry)) ∷ vectorsIn (now (bytes .entry)) ∷ [])))
-        × ((now (gates .exit) ≡ after
-        (readRows (now (bytes .entry)) (length (now (gates .entry))) (length (now (vectors .entry))))
-        (gateWords (now (bytes .entry)) ++ drop (3 * gatesIn (now (bytes .entry))) (now (gates .entry)))
-        (now (gates .entry)))
-        × (now (vectors .exit) ≡ after
-        (readRows (now (bytes .entry)) (length (now (gates .entry))) (length (now (vectors .entry))))
-        (vectorWords (now (bytes .entry)) ++ drop (vectorsIn (now (bytes .entry))) (now (vectors .entry)))
-        (now (vectors .entry)))) ⌝ }
+    ensures { λ r. ⌜ (toldRead r ≡ readTells (now (bytes .entry)) (now (gates .entry)) (now (vectors .entry)))
+        × ((now (gates .exit) ≡ gatesAfterRead (now (bytes .entry)) (now (gates .entry)) (now (vectors .entry)))
+        × (now (vectors .exit) ≡ vectorsAfterRead (now (bytes .entry)) (now (gates .entry)) (now (vectors .entry)))) ⌝ }
 {
     let words = gates.len();
     let count = vectors.len();
@@ -91,14 +69,8 @@ pub fn write_job(
     vectors: &[u32],
     out: &mut [u8],
 ) -> Written
-    ensures { λ r. ⌜ (toldWritten r ≡ firstOf
-        (writeRows lines classes (now (gates .entry)) (now (vectors .entry)) (length (now (out .entry))))
-        (answered (length (image lines classes (now (gates .entry)) (now (vectors .entry))) ∷ [])))
-        × (now (out .exit) ≡ after
-        (writeRows lines classes (now (gates .entry)) (now (vectors .entry)) (length (now (out .entry))))
-        (image lines classes (now (gates .entry)) (now (vectors .entry))
-        ++ drop (length (image lines classes (now (gates .entry)) (now (vectors .entry)))) (now (out .entry)))
-        (now (out .entry))) ⌝ }
+    ensures { λ r. ⌜ (toldWritten r ≡ writeTells lines classes (now (gates .entry)) (now (vectors .entry)) (now (out .entry)))
+        × (now (out .exit) ≡ roomAfterWrite lines classes (now (gates .entry)) (now (vectors .entry)) (now (out .entry))) ⌝ }
 {
     match rules::check_write(lines, classes, gates, vectors, out.len()) {
         Checked::Wrong(refusal) => Written::Refused(refusal),

@@ -1,8 +1,8 @@
 // A job read into lists.
 ghost use mathlib.Core.Path.{_≡_};
-ghost use mathlib.Core.List.{_++_};
 ghost use Prim.Native.Nat.{_+_, _*_, _≤_};
-ghost use lib.ListN.{length, drop};
+ghost use lib.ListN.{length};
+ghost use Rattle.basics.specs.Lists.{onto};
 ghost use Rattle.refusals.specs.Tables.{firstOf};
 ghost use Rattle.refusals.specs.Checks.{fine};
 ghost use Rattle.job.specs.Image.{linesIn, classesIn, gatesIn, vectorsIn, gateWords, vectorWords};
@@ -14,8 +14,8 @@ use crate::bytes;
 pub fn read_lists(image: &[u8], gates: &mut [u32], vectors: &mut [u32])
     requires { ⌜ length (now image) ≡ 28 + 12 * gatesIn (now image) + 4 * vectorsIn (now image) ⌝ }
     requires { ⌜ (3 * gatesIn (now image) ≤ length (now gates)) × (vectorsIn (now image) ≤ length (now vectors)) ⌝ }
-    ensures { λ _. ⌜ (now (gates .exit) ≡ gateWords (now (image .entry)) ++ drop (3 * gatesIn (now (image .entry))) (now (gates .entry)))
-        × (now (vectors .exit) ≡ vectorWords (now (image .entry)) ++ drop (vectorsIn (now (image .entry))) (now (vectors .entry))) ⌝ }
+    ensures { λ _. ⌜ (now (gates .exit) ≡ onto (gateWords (now (image .entry))) (now (gates .entry)))
+        × (now (vectors .exit) ≡ onto (vectorWords (now (image .entry))) (now (vectors .entry))) ⌝ }
 {
     let words = 3 * (bytes::number_at_4(image, 8) as usize);
     let count = bytes::number_at_4(image, 12) as usize;
@@ -28,8 +28,8 @@ pub fn read_image(image: &[u8], gates: &mut [u32], vectors: &mut [u32]) -> Read
     requires { ⌜ fine ≡ firstOf (readRows (now image) (length (now gates)) (length (now vectors))) fine ⌝ }
     ensures { λ r. ⌜ (r ≡ Read.Job (linesIn (now (image .entry))) (classesIn (now (image .entry)))
         (gatesIn (now (image .entry))) (vectorsIn (now (image .entry))))
-        × ((now (gates .exit) ≡ gateWords (now (image .entry)) ++ drop (3 * gatesIn (now (image .entry))) (now (gates .entry)))
-        × (now (vectors .exit) ≡ vectorWords (now (image .entry)) ++ drop (vectorsIn (now (image .entry))) (now (vectors .entry)))) ⌝ }
+        × ((now (gates .exit) ≡ onto (gateWords (now (image .entry))) (now (gates .entry)))
+        × (now (vectors .exit) ≡ onto (vectorWords (now (image .entry))) (now (vectors .entry)))) ⌝ }
 {
     read_lists(image, gates, vectors);
     Read::Job {

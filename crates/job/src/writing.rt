@@ -1,10 +1,9 @@
 // A job written into bytes.
 ghost use mathlib.Core.Path.{_≡_};
-ghost use mathlib.Core.List.{_++_};
 ghost use Prim.Native.Nat.{_≤_};
-ghost use lib.ListN.{length, drop};
+ghost use lib.ListN.{length};
 ghost use lib.Seq.{sets};
-ghost use Rattle.basics.specs.Lists.{each};
+ghost use Rattle.basics.specs.Lists.{each, onto};
 ghost use Rattle.job.specs.Image.{header, rowBytes, gateCount, image};
 use crate::bytes;
 
@@ -27,8 +26,7 @@ pub fn write_image(lines: u32, classes: u32, gates: &[u32], vectors: &[u32], out
     requires { ⌜ (gateCount (now gates) ≤ 1024) × (length (now vectors) ≤ 2048) ⌝ }
     requires { ⌜ length (image lines classes (now gates) (now vectors)) ≤ length (now out) ⌝ }
     ensures { λ r. ⌜ (r ≡ length (image lines classes (now (gates .entry)) (now (vectors .entry))))
-        × (now (out .exit) ≡ image lines classes (now (gates .entry)) (now (vectors .entry))
-        ++ drop (length (image lines classes (now (gates .entry)) (now (vectors .entry)))) (now (out .entry))) ⌝ }
+        × (now (out .exit) ≡ onto (image lines classes (now (gates .entry)) (now (vectors .entry))) (now (out .entry))) ⌝ }
 {
     put_header(
         out,

@@ -6,7 +6,7 @@ use native.Mathlib.Omega.{arith}
 use lib.ListN.{drop}
 use lib.Seq.{length-take-le}
 use Rattle.job.specs.Image.{gatesIn, vectorsIn}
-use Rattle.job.proofs.ImageLaws.{gate-words, vector-words}
+use Rattle.job.proofs.ImageLaws.{length-gate-words, length-vector-words, gate-words, vector-words}
 use borrow.Author.Needs.{needs}
 use Rattle.job.proofs.reading.read_lists.Statement.{statement}
 use Rattle.job.proofs.reading.read_lists.Tie as tie
@@ -87,9 +87,9 @@ returns c =
     let m = c8 .number-at-42 in
     let k = length-take-le (3 * d .result) (a .gates .now) (omega arith) in
     let l = length-take-le (m .result) (a .vectors .now) (omega arith) in (
-      ap₂ _++_ (c6 .read-words .ensures ∙ gate-words (a .image .now) _ (omega arith)) (ap (λ i. drop (3 * i) (a .gates .now)) (d .ensures)),
+      ap₂ _++_ (c6 .read-words .ensures ∙ gate-words (a .image .now) _ (omega arith)) (ap (λ i. drop i (a .gates .now)) (ap (λ i. 3 * i) (d .ensures) ∙ sym (length-gate-words (a .image .now)))),
       ap₂ _++_ (c2 .read-words2 .ensures ∙ vector-words (a .image .now) _ _ (omega arith) (omega arith))
-          (ap (λ i. drop i (a .vectors .now)) (m .ensures)),
+          (ap (λ i. drop i (a .vectors .now)) (m .ensures ∙ sym (length-vector-words (a .image .now)))),
     )
 
 pub read-lists-spec : {M : Type 1} → statement M
