@@ -19,6 +19,10 @@ use Rattle.circuit.specs.Sound.{Sound}
 use Rattle.circuit.proofs.GateLaws.{gates-count}
 use Rattle.circuit.proofs.RuleLaws.{VectorsOk, vectors-ok, lines-right, sizes-right}
 use Rattle.job.specs.Image.{linesIn, classesIn, gatesIn, vectorsIn, gateWords, vectorWords}
+use Rattle.job.specs.Promises.{readTells, gatesAfterRead, vectorsAfterRead}
+use Rattle.job.specs.Answers.{toldRead}
+use Rattle.job.specs.declared.Read.{Read}
+use Rattle.job.specs.declared.Read.the-variants.{Job}
 use Rattle.job.specs.Rules.{readRows, headerRows}
 use Rattle.basics.proofs.PutLaws.{sets-append, sets-front}
 use Rattle.job.proofs.ByteLaws.{length-words}
@@ -95,29 +99,28 @@ pub record JobRead (bytes gates vectors : List ℕ) (n k d m : ℕ) : Type 0 whe
   pub gates-in : 3 * d ≤ 3072
   pub vectors-in : m ≤ 2048
 
-module _ (bytes oldGates oldVectors gates vectors : List ℕ) (n k d m gateRoom vectorRoom : ℕ) where
-  pub job-read : gateRoom ≡ 3072 → vectorRoom ≡ 2048
-      → answered (n ∷ k ∷ d ∷ m ∷ []) ≡ firstOf (readRows bytes gateRoom vectorRoom)
-      (answered (linesIn bytes ∷ classesIn bytes ∷ gatesIn bytes ∷ vectorsIn bytes ∷ []))
-      → gates ≡ after (readRows bytes gateRoom vectorRoom) (gateWords bytes ++ drop (3 * gatesIn bytes) oldGates) oldGates
-      → vectors ≡ after (readRows bytes gateRoom vectorRoom) (vectorWords bytes ++ drop (vectorsIn bytes) oldVectors) oldVectors
-      → JobRead bytes gates vectors n k d m
-  unfolding gatesIn vectorsIn
-  job-read p q e g v =
-      let rows = readRows bytes gateRoom vectorRoom in
-      let w = answered-fine rows _ _ e in
-      let fits = read-ok bytes gateRoom vectorRoom (w .1) in
-      let same : d ≡ gatesIn bytes = cc in
-      let many : m ≡ vectorsIn bytes = cc in
-      record {
-        passed = rw (p, q) at (w .1);
-        lines-are = cc;
-        classes-are = cc;
-        gates-are = gates-front bytes gates _ d (g ∙ sym (after-fine rows _ _ (w .1))) same;
-        vectors-are = vectors-front bytes vectors _ m (v ∙ sym (after-fine rows _ _ (w .1))) many;
-        gates-in = omega (arith, same, fits .gates-room);
-        vectors-in = omega (arith, many, fits .vectors-room);
-      }
+-- what the call's promise says of a job that it answers
+pub job-read : (r : Read) (bytes oldGates oldVectors gates vectors : List ℕ) (n k d m : ℕ) → r ≡ Job n k d m
+    → (toldRead r ≡ readTells bytes oldGates oldVectors)
+    × ((gates ≡ gatesAfterRead bytes oldGates oldVectors) × (vectors ≡ vectorsAfterRead bytes oldGates oldVectors))
+    → length oldGates ≡ 3072 → length oldVectors ≡ 2048 → JobRead bytes gates vectors n k d m
+unfolding gatesIn vectorsIn
+job-read r bytes oldGates oldVectors gates vectors n k d m is promise p q =
+    let rows = readRows bytes (length oldGates) (length oldVectors) in
+    let told : answered (n ∷ k ∷ d ∷ m ∷ []) ≡ readTells bytes oldGates oldVectors = sym (ap toldRead is) ∙ promise .0 in
+    let w = answered-fine rows _ _ told in
+    let fits = read-ok bytes (length oldGates) (length oldVectors) (w .1) in
+    let same : d ≡ gatesIn bytes = cc in
+    let many : m ≡ vectorsIn bytes = cc in
+    record {
+      passed = rw (p, q) at (w .1);
+      lines-are = cc;
+      classes-are = cc;
+      gates-are = gates-front bytes gates _ d (promise .1 .0 ∙ sym (after-fine rows _ _ (w .1))) same;
+      vectors-are = vectors-front bytes vectors _ m (promise .1 .1 ∙ sym (after-fine rows _ _ (w .1))) many;
+      gates-in = omega (arith, same, fits .gates-room);
+      vectors-in = omega (arith, many, fits .vectors-room);
+    }
 
 module _ (bytes gates vectors : List ℕ) (n k d m : ℕ) (w : JobRead bytes gates vectors n k d m) where
   -- it breaks no rule of the judge

@@ -41,40 +41,35 @@ array-share-prefix-gates : tie.Need-array-share-prefix-gates
 array-share-prefix-gates c =
     let r = c .before .before .before .before .before .before .read-job in
     let g = c .before .before .lines .given in
-    let k = job-read _ _ _ _ _ (g .0 .0) (g .0 .1 .0) (g .0 .1 .1 .0) (g .0 .1 .1 .1 .0) _ _ (omega arith) (omega arith)
-    (ap toldRead (sym (g .1)) ∙ r .ensures .0) (r .ensures .1 .0) (r .ensures .1 .1) in
+    let k = job-read _ _ _ _ _ _ _ _ _ _ (g .1) (r .ensures) (omega arith) (omega arith) in
     omega (arith, k .gates-in, r .kept)
 
 slice-aggregate-put-job : tie.Need-slice-aggregate-put-job
 slice-aggregate-put-job c =
     let r = c .before .before .before .before .before .before .before .read-job in
     let g = c .before .before .before .lines .given in
-    let k = job-read _ _ _ _ _ (g .0 .0) (g .0 .1 .0) (g .0 .1 .1 .0) (g .0 .1 .1 .1 .0) _ _ (omega arith) (omega arith)
-    (ap toldRead (sym (g .1)) ∙ r .ensures .0) (r .ensures .1 .0) (r .ensures .1 .1) in
+    let k = job-read _ _ _ _ _ _ _ _ _ _ (g .1) (r .ensures) (omega arith) (omega arith) in
     sym (length-take-le (3 * g .0 .1 .1 .0) (r .last .1 .0) (omega (arith, k .gates-in, r .kept)))
 
 array-share-prefix-vectors : tie.Need-array-share-prefix-vectors
 array-share-prefix-vectors c =
     let r = c .before .before .before .before .before .before .before .read-job in
     let g = c .before .before .before .lines .given in
-    let k = job-read _ _ _ _ _ (g .0 .0) (g .0 .1 .0) (g .0 .1 .1 .0) (g .0 .1 .1 .1 .0) _ _ (omega arith) (omega arith)
-    (ap toldRead (sym (g .1)) ∙ r .ensures .0) (r .ensures .1 .0) (r .ensures .1 .1) in
+    let k = job-read _ _ _ _ _ _ _ _ _ _ (g .1) (r .ensures) (omega arith) (omega arith) in
     omega (arith, k .vectors-in, r .kept)
 
 slice-aggregate-put-job-2 : tie.Need-slice-aggregate-put-job-2
 slice-aggregate-put-job-2 c =
     let r = c .before .before .before .before .before .before .before .before .read-job in
     let g = c .before .before .before .before .lines .given in
-    let k = job-read _ _ _ _ _ (g .0 .0) (g .0 .1 .0) (g .0 .1 .1 .0) (g .0 .1 .1 .1 .0) _ _ (omega arith) (omega arith)
-    (ap toldRead (sym (g .1)) ∙ r .ensures .0) (r .ensures .1 .0) (r .ensures .1 .1) in
+    let k = job-read _ _ _ _ _ _ _ _ _ _ (g .1) (r .ensures) (omega arith) (omega arith) in
     sym (length-take-le (g .0 .1 .1 .1 .0) (r .last .1 .1 .0) (omega (arith, k .vectors-in, r .kept)))
 
 put-job-requires : tie.Need-put-job-requires
 put-job-requires c κs =
     let r = c .before .before .before .before .before .before .before .before .read-job in
     let g = c .before .before .before .before .lines .given in
-    let k = job-read _ _ _ _ _ (g .0 .0) (g .0 .1 .0) (g .0 .1 .1 .0) (g .0 .1 .1 .1 .0) _ _ (omega arith) (omega arith)
-    (ap toldRead (sym (g .1)) ∙ r .ensures .0) (r .ensures .1 .0) (r .ensures .1 .1) in
+    let k = job-read _ _ _ _ _ _ _ _ _ _ (g .1) (r .ensures) (omega arith) (omega arith) in
     job-sound _ _ _ _ _ _ _ k
 
 returns : tie.Need-returns
@@ -89,8 +84,7 @@ returns-2 : tie.Need-returns-2
 returns-2 c =
     let r = c .before .before .before .before .before .before .before .before .before .read-job in
     let g = c .before .before .before .before .before .lines .given in
-    let k = job-read _ _ _ _ _ (g .0 .0) (g .0 .1 .0) (g .0 .1 .1 .0) (g .0 .1 .1 .1 .0) _ _ (omega arith) (omega arith)
-    (ap toldRead (sym (g .1)) ∙ r .ensures .0) (r .ensures .1 .0) (r .ensures .1 .1) in
+    let k = job-read _ _ _ _ _ _ _ _ _ _ (g .1) (r .ensures) (omega arith) (omega arith) in
     text-as _ _ _ (job-text _ _ _ _ _ _ _ k) (c .put-job .ensures)
 
 pub put-report-spec : {M : Type 1} → statement M
