@@ -1,4 +1,4 @@
-// Refusals: a number of the paper's table with its place, and what a check of a table of rules finds.
+// Refusals: a number of the table (docs/SCOPE.md, section 6) with its place, and what a check of a table of rules finds.
 ghost use mathlib.Core.Path.{_≡_};
 ghost use mathlib.Core.Bool.{not};
 ghost use mathlib.Core.List.{[], _∷_};
