@@ -7,3 +7,12 @@ pub mod Demand1OfC
 pub mod Demand2
 pub mod Demand3
 pub mod WrongPrograms
+pub mod PlacesLaws
+pub mod PlacesInWords
+pub mod PlacesOfSites
+pub mod PlacesTold
+pub mod Places
+pub mod PlacesOfC
+pub mod ImagesPromised
+pub mod Images
+pub mod ImagesOfCalls

@@ -5,3 +5,5 @@ pub mod NumberLaws
 pub mod AnswerLaws
 pub mod FitLaws
 pub mod RoundTrip
+pub mod LongLaws
+pub mod WriteLaws

@@ -3,3 +3,4 @@ pub mod ClassLaws
 pub mod LengthLaws
 pub mod ReportLaws
 pub mod AnswerLaws
+pub mod CutLaws
