@@ -28,7 +28,7 @@ use Rattle.judge.specs.Rules.{classRows, judgeRows}
 use Rattle.judge.specs.Answers.{toldVerdict}
 use Rattle.judge.specs.declared.Verdict.{Verdict}
 use Rattle.judge.specs.declared.Verdict.the-variants.{Complete, Left}
-use Rattle.dropping.specs.Dropping.{uncaught, dropped, numbersOf}
+use Rattle.dropping.specs.Dropping.{uncaught, dropped, wordsOf}
 use Rattle.dropping.specs.Rules.{badRecord, recordRows, dropRows}
 use Rattle.testsets.specs.Log2.{log2In, log2}
 use Rattle.testsets.specs.Sets.{score, bestOf, best, picks, bound, compactSet}
@@ -70,12 +70,12 @@ abbrev pub oneFault : List ℕ
 oneFault = 2 ∷ 1 ∷ 0 ∷ 0 ∷ []
 
 abbrev pub promisedList : List ℕ
-promisedList = after (dropRows 3 sampleWords 3 oneFault) (numbersOf (dropped (gatesOf sampleWords) 3 (faultsOf oneFault))) oneFault
+promisedList = after (dropRows 3 sampleWords 3 oneFault) (wordsOf (dropped (gatesOf sampleWords) 3 (faultsOf oneFault))) oneFault
 
 list-is : promisedList ≡ 0 ∷ 0 ∷ 0 ∷ 0 ∷ []
 unfolding sampleWords dropRows recordRows circuitSetRows circuitRows vectorRows badRecord isFault isStuckAt isGate isMissingGate isMissingControl
     isExtraControl noFault faultsOf firstBadRecord firstBadGate firstBadFrom badGate isControl bit flip allOn gatesOf gateAt noGate fires
-    step run without faulty caught uncaught dropped numbersOf keep inWord
+    step run without faulty caught uncaught dropped wordsOf keep inWord
 list-is = refl
 
 -- a room of 5 words after the compact set of a circuit of 3 lines

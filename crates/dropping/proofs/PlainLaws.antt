@@ -8,21 +8,21 @@ use lib.ListN.{length, set, length-set}
 use Rattle.faults.specs.Records.{faultsOf}
 use Rattle.faults.specs.declared.Fault.{Fault}
 use Rattle.faults.proofs.RecordLaws.{records-count}
-use Rattle.dropping.specs.Dropping.{numbersOf}
+use Rattle.dropping.specs.Dropping.{wordsOf}
 
-pub faults-numbers : (fs : List Fault) → faultsOf (numbersOf fs) ≡ fs
-unfolding faultsOf numbersOf
+pub faults-numbers : (fs : List Fault) → faultsOf (wordsOf fs) ≡ fs
+unfolding faultsOf wordsOf
 faults-numbers [] = refl
 faults-numbers (f ∷ fs) = ap (λ rest. f ∷ rest) (faults-numbers fs)
 
-pub numbers-length : (fs : List Fault) → length (numbersOf fs) ≡ 4 * length fs
-unfolding numbersOf
+pub numbers-length : (fs : List Fault) → length (wordsOf fs) ≡ 4 * length fs
+unfolding wordsOf
 numbers-length [] = refl
 numbers-length (f ∷ fs) = let r = numbers-length fs in omega arith
 
 -- where no number is left over
-pub numbers-faults : (list : List ℕ) → length list ≡ 4 * length (faultsOf list) → numbersOf (faultsOf list) ≡ list
-unfolding faultsOf numbersOf
+pub numbers-faults : (list : List ℕ) → length list ≡ 4 * length (faultsOf list) → wordsOf (faultsOf list) ≡ list
+unfolding faultsOf wordsOf
 numbers-faults [] e = refl
 numbers-faults (c ∷ []) e = absurd (omega arith)
 numbers-faults (c ∷ p ∷ []) e = absurd (omega arith)

@@ -18,6 +18,6 @@ unfoldable pub dropped : List Gate → ℕ → List Fault → List Fault
 dropped gs x fs = uncaught gs x fs ++ replicate (length fs - length (uncaught gs x fs)) noFault
 
 -- records as plain numbers, four a record
-unfoldable pub numbersOf : List Fault → List ℕ
-numbersOf [] = []
-numbersOf (f ∷ fs) = f .class ∷ f .place ∷ f .line ∷ f .value ∷ numbersOf fs
+unfoldable pub wordsOf : List Fault → List ℕ
+wordsOf [] = []
+wordsOf (f ∷ fs) = f .class ∷ f .place ∷ f .line ∷ f .value ∷ wordsOf fs

@@ -9,14 +9,14 @@ ghost use Rattle.circuit.specs.Sound.{Sound};
 ghost use Rattle.simulator.specs.Faulty.{caught};
 ghost use Rattle.faults.specs.Rules.{isFault};
 ghost use Rattle.faults.specs.Records.{faultsOf, noFault};
-ghost use Rattle.dropping.specs.Dropping.{uncaught, dropped, numbersOf};
+ghost use Rattle.dropping.specs.Dropping.{uncaught, dropped, wordsOf};
 ghost use Rattle.dropping.specs.Records.{AllFaults, Records, staysAt, taken};
 use faults::Fault;
 use faults::records::record_at;
 use simulator::checked::catches;
 
 // A blank record.
-pub fn blank() -> Fault
+fn blank() -> Fault
     ensures { λ r. ⌜ r ≡ noFault ⌝ }
 {
     Fault {
@@ -28,7 +28,7 @@ pub fn blank() -> Fault
 }
 
 // Whether a vector does not catch a fault.
-pub fn stays(lines: u32, gates: &[u32], vector: u32, fault: Fault) -> bool
+fn stays(lines: u32, gates: &[u32], vector: u32, fault: Fault) -> bool
     requires { ⌜ Sound lines (now gates) ⌝ }
     requires { ⌜ isFault lines (gatesOf (now gates)) fault ≡ true ⌝ }
     ensures { λ r. ⌜ r ≡ not (caught (gatesOf (now (gates .entry))) fault vector) ⌝ }
@@ -37,7 +37,7 @@ pub fn stays(lines: u32, gates: &[u32], vector: u32, fault: Fault) -> bool
 }
 
 // Writes the record after so many others: four numbers of the list.
-pub fn put_record(list: &mut [u32], ahead: usize, fault: Fault)
+fn put_record(list: &mut [u32], ahead: usize, fault: Fault)
     requires { ⌜ 4 * ahead + 4 ≤ length (now list) ⌝ }
     ensures { λ _. ⌜ (faultsOf (now (list .exit)) ≡ set (faultsOf (now (list .entry))) ahead fault)
         × (length (now (list .exit)) ≡ length (now (list .entry))) ⌝ }
@@ -61,7 +61,7 @@ fn keep_record(list: &mut [u32], left: usize, fault: Fault) -> usize
 }
 
 // Blanks the record after so many others, and writes it behind those that stay if it stays too: how many then stay.
-pub fn take_record(
+fn take_record(
     lines: u32,
     gates: &[u32],
     vector: u32,
@@ -87,11 +87,11 @@ pub fn take_record(
 }
 
 // The uncaught to the front in their old order, and the rest blank: how many are left.
-pub fn compact(lines: u32, gates: &[u32], vector: u32, list: &mut [u32]) -> usize
+pub fn uncaught_to_front(lines: u32, gates: &[u32], vector: u32, list: &mut [u32]) -> usize
     requires { ⌜ Sound lines (now gates) ⌝ }
     requires { ⌜ Records lines (gatesOf (now gates)) (now list) ⌝ }
     ensures { λ r. ⌜ (r ≡ length (uncaught (gatesOf (now (gates .entry))) vector (faultsOf (now (list .entry)))))
-        × (now (list .exit) ≡ numbersOf (dropped (gatesOf (now (gates .entry))) vector (faultsOf (now (list .entry))))) ⌝ }
+        × (now (list .exit) ≡ wordsOf (dropped (gatesOf (now (gates .entry))) vector (faultsOf (now (list .entry))))) ⌝ }
 {
     let whole = list.len() / 4;
     let mut left = 0;
@@ -104,7 +104,12 @@ pub fn compact(lines: u32, gates: &[u32], vector: u32, list: &mut [u32]) -> usiz
 }
 
 // The same of a slice of records.
-pub fn compact_records(list: &mut [Fault], lines: u32, gates: &[u32], vector: u32) -> usize
+pub fn uncaught_records_to_front(
+    list: &mut [Fault],
+    lines: u32,
+    gates: &[u32],
+    vector: u32,
+) -> usize
     requires { ⌜ Sound lines (now gates) ⌝ }
     requires { ⌜ AllFaults lines (gatesOf (now gates)) (now list) ⌝ }
     ensures { λ r. ⌜ (r ≡ length (uncaught (gatesOf (now (gates .entry))) vector (now (list .entry))))

@@ -1,17 +1,10 @@
 // Dropping: a lent list of fault records loses the faults that a vector catches.
 ghost use mathlib.Core.Path.{_≡_};
-ghost use mathlib.Core.List.{[], _∷_};
-ghost use lib.ListN.{length};
-ghost use Rattle.refusals.specs.Tables.{firstOf, after};
-ghost use Rattle.refusals.specs.Tables.Told.{answered};
 ghost use Rattle.refusals.specs.Places.{inWord};
-ghost use Rattle.circuit.specs.Gates.{gatesOf};
-ghost use Rattle.faults.specs.Records.{faultsOf};
-ghost use Rattle.dropping.specs.Dropping.{uncaught, dropped, numbersOf};
-ghost use Rattle.dropping.specs.Rules.{dropRows, dropRecordsRows};
+ghost use Rattle.dropping.specs.Promises.{dropTells, listAfterDrop, dropRecordsTells, recordsAfterDrop};
 ghost use Rattle.dropping.specs.Answers.{toldDropped, isWrong, answerTo};
-use crate::checked::compact;
-use crate::checked::compact_records;
+use crate::checked::uncaught_records_to_front;
+use crate::checked::uncaught_to_front;
 use crate::rules::check_drop;
 use crate::rules::check_records;
 use crate::rules::first_bad_of;
@@ -31,29 +24,24 @@ pub enum Dropped {
 
 // A plain list, four numbers a record.
 pub fn drop(lines: u32, gates: &[u32], vector: u32, list: &mut [u32]) -> Dropped
-    ensures { λ r. ⌜ (toldDropped r ≡ firstOf
-        (dropRows lines (now (gates .entry)) vector (now (list .entry)))
-        (answered (inWord (length (uncaught (gatesOf (now (gates .entry))) vector (faultsOf (now (list .entry))))) ∷ [])))
-        × (now (list .exit) ≡ after
-        (dropRows lines (now (gates .entry)) vector (now (list .entry)))
-        (numbersOf (dropped (gatesOf (now (gates .entry))) vector (faultsOf (now (list .entry)))))
-        (now (list .entry))) ⌝ }
+    ensures { λ r. ⌜ (toldDropped r ≡ dropTells lines (now (gates .entry)) vector (now (list .entry)))
+        × (now (list .exit) ≡ listAfterDrop lines (now (gates .entry)) vector (now (list .entry))) ⌝ }
 {
     match check_drop(lines, gates, vector, list) {
         Checked::Wrong(refusal) => Dropped::Refused(refusal),
-        Checked::Fine => Dropped::Left(refusals::in_word(compact(lines, gates, vector, list))),
+        Checked::Fine => Dropped::Left(refusals::in_word(uncaught_to_front(
+            lines,
+            gates,
+            vector,
+            list,
+        ))),
     }
 }
 
 // A slice of records.
 pub fn drop_records(lines: u32, gates: &[u32], vector: u32, list: &mut [Fault]) -> Dropped
-    ensures { λ r. ⌜ (toldDropped r ≡ firstOf
-        (dropRecordsRows lines (now (gates .entry)) vector (now (list .entry)))
-        (answered (inWord (length (uncaught (gatesOf (now (gates .entry))) vector (now (list .entry)))) ∷ [])))
-        × (now (list .exit) ≡ after
-        (dropRecordsRows lines (now (gates .entry)) vector (now (list .entry)))
-        (dropped (gatesOf (now (gates .entry))) vector (now (list .entry)))
-        (now (list .entry))) ⌝ }
+    ensures { λ r. ⌜ (toldDropped r ≡ dropRecordsTells lines (now (gates .entry)) vector (now (list .entry)))
+        × (now (list .exit) ≡ recordsAfterDrop lines (now (gates .entry)) vector (now (list .entry))) ⌝ }
 {
     let first = check_vector(lines, gates, vector);
     if is_wrong(first) {
@@ -63,7 +51,10 @@ pub fn drop_records(lines: u32, gates: &[u32], vector: u32, list: &mut [Fault]) 
     if is_wrong(records) {
         return answer(records, 0);
     }
-    answer(records, compact_records(list, lines, gates, vector))
+    answer(
+        records,
+        uncaught_records_to_front(list, lines, gates, vector),
+    )
 }
 
 // Whether a check found a broken rule.

@@ -14,7 +14,7 @@ ghost use Rattle.simulator.specs.Faulty.{caught, caughtTogether};
 ghost use Rattle.simulator.specs.Rules.{catchRows, testRows, multipleRows};
 ghost use Rattle.faults.specs.Records.{faultsOf};
 ghost use Rattle.simulator.specs.Tests.{testFor};
-ghost use Rattle.dropping.specs.Dropping.{uncaught, dropped, numbersOf};
+ghost use Rattle.dropping.specs.Dropping.{uncaught, dropped, wordsOf};
 ghost use Rattle.dropping.specs.Rules.{dropRows, dropRecordsRows};
 ghost use Rattle.testsets.specs.Sets.{backwardSet, compactSet};
 ghost use Rattle.testsets.specs.Rules.{backwardRows, compactRows};
@@ -124,7 +124,7 @@ pub extern "C" fn nuf_drop(lines: u32, gates: &[u32], vector: u32, list: &mut [u
         (answered (inWord (length (uncaught (gatesOf (now (gates .entry))) vector (faultsOf (now (list .entry))))) ∷ []))))
         × (now (list .exit) ≡ after
         (dropRows lines (now (gates .entry)) vector (now (list .entry)))
-        (numbersOf (dropped (gatesOf (now (gates .entry))) vector (faultsOf (now (list .entry)))))
+        (wordsOf (dropped (gatesOf (now (gates .entry))) vector (faultsOf (now (list .entry)))))
         (now (list .entry))) ⌝ }
 {
     left_of(dropping::drop(lines, gates, vector, list))

@@ -1,1 +1,1 @@
-// What the proof of a function over a lent slice of structs is made of is in proofs/Walk.antt. There is no code.
+// What the proof of a function over a lent slice of structs is made of is in proofs/. There is no code.

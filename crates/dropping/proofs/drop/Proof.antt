@@ -20,8 +20,8 @@ enum-known-refusal c = search needs
 enum-told : tie.Need-enum-told
 enum-told c = search needs
 
-compact-requires : tie.Need-compact-requires
-compact-requires c κs =
+uncaught-to-front-requires : tie.Need-uncaught-to-front-requires
+uncaught-to-front-requires c κs =
     let a = c .before .before .before .before .before .before .before .args in
     let ok = drop-ok (a .lines) (a .gates .now) (a .vector) (a .list .now)
     (ap found (sym (c .before .enum-told .given .1)) ∙ c .before .before .before .check-drop .ensures) in
@@ -49,7 +49,7 @@ returns-2 c =
     let rows = dropRows (a .lines) (a .gates .now) (a .vector) (a .list .now) in
     let passed = ap found (sym (c .before .before .before .before .before .enum-told .given .1)) ∙ c .before .before .before .before
     .before .before .before .check-drop .ensures in
-    let left = c .before .before .before .compact .ensures in (
+    let left = c .before .before .before .uncaught-to-front .ensures in (
       ap (λ number. answered (number ∷ [])) (c .in-word .ensures ∙ ap inWord (left .0)) ∙ fine-all rows _ passed,
       left .1 ∙ after-fine rows _ _ passed,
     )
@@ -61,7 +61,7 @@ drop-spec =
     check-drop-requires
     enum-known-refusal
     enum-told
-    compact-requires
+    uncaught-to-front-requires
     in-word-requires
     same-length
     returns

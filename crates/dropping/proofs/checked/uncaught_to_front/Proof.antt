@@ -1,4 +1,4 @@
--- `dropping::checked::compact` meets its contract: before each turn the list is what stays so far, blank records,
+-- `dropping::checked::uncaught_to_front` meets its contract: before each turn the list is what stays so far, blank records,
 -- and what is still to be seen. Assumes nothing.
 use Prim.Native.Nat.{_*_, _≤_, _-_}
 use mathlib.Core.Path.{_≡_, refl, ap, sym, _∙_}
@@ -7,11 +7,11 @@ use lib.ListN.{length}
 use Rattle.circuit.specs.Gates.{gatesOf}
 use Rattle.faults.specs.Records.{faultsOf}
 use Rattle.faults.proofs.RecordLaws.{records-count}
-use Rattle.dropping.specs.Dropping.{numbersOf}
+use Rattle.dropping.specs.Dropping.{wordsOf}
 use Rattle.dropping.proofs.PlainLaws.{numbers-faults}
 use Rattle.dropping.proofs.DropLaws.{Going, start, long, below, fault-here, on, as-is, done-number, done-list}
-use Rattle.dropping.proofs.checked.compact.Statement.{statement}
-use Rattle.dropping.proofs.checked.compact.Tie as tie
+use Rattle.dropping.proofs.checked.uncaught_to_front.Statement.{statement}
+use Rattle.dropping.proofs.checked.uncaught_to_front.Tie as tie
 
 abbrev Inv-loop : tie.InvT-loop
 Inv-loop lines gates vector list₀ whole left₀ i₀ list left i = (i ≤ whole) ×
@@ -57,10 +57,10 @@ returns c =
     let end : length (faultsOf (l .list)) ≤ l .i = omega (arith, l .inv .1 .0) in
     let whole : length (l .list) ≡ 4 * length (faultsOf (l .list)) = omega
     (arith, l .inv .1 .0, long going, c .before .before .before .before .pre .1 .whole) in
-    (done-number going end, sym (numbers-faults (l .list) whole) ∙ ap numbersOf (done-list going end))
+    (done-number going end, sym (numbers-faults (l .list) whole) ∙ ap wordsOf (done-list going end))
 
-pub compact-spec : {M : Type 1} → statement M
-compact-spec =
+pub uncaught-to-front-spec : {M : Type 1} → statement M
+uncaught-to-front-spec =
     tie.close
     (tie.spec
     Inv-loop
