@@ -67,6 +67,14 @@ pub counts-right : (d m : ℕ) → badCounts d m ≡ false → (d ≤ mostGates)
 unfolding badCounts
 counts-right d m e = let w = or-neither (ltb mostGates d) (ltb mostVectors m) e in (ltb-false mostGates d (w .0), ltb-false mostVectors m (w .1))
 
+pub lines-good : (n : ℕ) → 1 ≤ n → n ≤ mostLines → badLines n ≡ false
+unfolding badLines
+lines-good n lo hi = or-false (le-ltb n 1 lo) (le-ltb mostLines n hi)
+
+pub counts-good : (d m : ℕ) → d ≤ mostGates → m ≤ mostVectors → badCounts d m ≡ false
+unfolding badCounts
+counts-good d m h k = or-false (le-ltb mostGates d h) (le-ltb mostVectors m k)
+
 -- which test of a circuit with a set of m vectors breaks which rule
 module _ (n : ℕ) (words : List ℕ) (m : ℕ) where
   pub set-lines : badLines n ≡ true → refused 3 0 ≡ firstOf (circuitSetRows n words m) fine

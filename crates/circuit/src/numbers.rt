@@ -38,6 +38,13 @@ pub fn gates_ahead(gate: GateNumber) -> usize
     gate.0 - 1
 }
 
+// How many gates stand up to a gate, with itself.
+pub fn gates_through(gate: GateNumber) -> usize
+    ensures { λ r. ⌜ r ≡ gate .0 ⌝ }
+{
+    gate.0
+}
+
 // The level that a gate reads.
 pub fn level_read(gate: GateNumber) -> LevelNumber
     requires { ⌜ 0 < gate .0 ⌝ }
