@@ -1,25 +1,31 @@
 -- Faults counted and searched by place, as loops go: a test on the faults of a class, level by level or gate by gate.
 use Prim.Native.Nat.{ℕ, suc, _+_, _-_, _≤_, _<_}
-use mathlib.Core.Path.{_≡_, sym, ap, _∙_}
+use mathlib.Core.Path.{_≡_, refl, sym, ap, ap₂, _∙_}
 use mathlib.Core.Bool.{Bool}
 use mathlib.Core.List.{List, [], _∷_, _++_}
-use native.Mathlib.Nat.{add-zero}
 use native.Mathlib.Numerals.{add-one}
 use native.Mathlib.Omega.{arith}
 use lib.ListN.{length}
-use Rattle.basics.specs.Choice.{count}
-use Rattle.basics.specs.Lists.{upFrom, keep, each}
+use Rattle.basics.specs.Lists.{upFrom, keep, each, All}
 use Rattle.basics.specs.Sums.{sumFrom}
-use Rattle.basics.proofs.Lists.{length-keep}
-use Rattle.basics.proofs.ListMore.{keep-append, keep-each, count-one, count-two}
+use Rattle.basics.proofs.ListMore.{keep-append, keep-each, count-two}
 use Rattle.basics.proofs.SumLaws.{sum-cong, length-sum}
 use Rattle.words.specs.Word.{linesOn}
-use Rattle.circuit.specs.Gates.{gateAt}
-use Rattle.circuit.specs.Controls.{isControl, isOther}
 use Rattle.circuit.specs.declared.Gate.{Gate}
 use Rattle.faults.specs.Sites.{sites}
 use Rattle.faults.specs.declared.Fault.{Fault}
-use Rattle.faults.specs.Classes.{faultOf, stuckFaults, missingGates, missingControls, extraControls}
+use Rattle.faults.specs.Classes.{faultOf, stuckFaults}
+
+-- a list that is made place by place goes by what each place gives
+pub each-agree : (f g : ℕ → List Fault) (places : List ℕ) → All (λ i. f i ≡ g i) places → each f places ≡ each g places
+unfolding each
+each-agree f g [] same = refl
+each-agree f g (i ∷ places) same = ap₂ _++_ (same .0) (each-agree f g places (same .1))
+
+pub each-none : (f : ℕ → List Fault) (places : List ℕ) → All (λ i. f i ≡ []) places → each f places ≡ []
+unfolding each
+each-none f [] none = refl
+each-none f (i ∷ places) none = ap₂ _++_ (none .0) (each-none f places (none .1))
 
 -- ---- counts
 
@@ -27,13 +33,6 @@ use Rattle.faults.specs.Classes.{faultOf, stuckFaults, missingGates, missingCon
 pub count-places : (m : Fault → Bool) (g : ℕ → List Fault) (a k : ℕ)
     → length (keep m (each g (upFrom a k))) ≡ sumFrom (λ i. length (keep m (g i))) a k
 count-places m g a k = ap length (keep-each m g (upFrom a k)) ∙ length-sum (λ i. keep m (g i)) a k
-
-pub count-missing-gates : (m : Fault → Bool) (gs : List Gate)
-    → length (keep m (missingGates gs)) ≡ sumFrom (λ i. count (m (faultOf 2 i 0 0))) 1 (length gs)
-unfolding missingGates keep
-count-missing-gates m gs =
-    count-places m (λ i. faultOf 2 i 0 0 ∷ []) 1 (length gs)
-    ∙ sum-cong _ _ 1 (length gs) (λ i l h. length-keep m (faultOf 2 i 0 0) [] ∙ add-zero (count (m (faultOf 2 i 0 0))))
 
 module _ (m : Fault → Bool) (n : ℕ) (gs : List Gate) where
   pub count-stuck : length (keep m (stuckFaults n gs))
@@ -43,20 +42,6 @@ module _ (m : Fault → Bool) (n : ℕ) (gs : List Gate) where
   count-stuck =
       count-places m (λ i. each (λ j. faultOf 1 i j 0 ∷ faultOf 1 i j 1 ∷ []) (linesOn n (sites n gs i))) 0 (suc (length gs))
       ∙ sum-cong _ _ 0 (suc (length gs)) (λ i l h. count-two m (λ j. faultOf 1 i j 0) (λ j. faultOf 1 i j 1) (linesOn n (sites n gs i)))
-
-  pub count-missing-controls : length (keep m (missingControls n gs))
-      ≡ sumFrom (λ i. length (keep (λ c. m (faultOf 3 i c 0)) (keep (isControl (gateAt gs i)) (upFrom 0 n)))) 1 (length gs)
-  unfolding missingControls
-  count-missing-controls =
-      count-places m (λ i. each (λ c. faultOf 3 i c 0 ∷ []) (keep (isControl (gateAt gs i)) (upFrom 0 n))) 1 (length gs)
-      ∙ sum-cong _ _ 1 (length gs) (λ i l h. count-one m (λ c. faultOf 3 i c 0) (keep (isControl (gateAt gs i)) (upFrom 0 n)))
-
-  pub count-extra-controls : length (keep m (extraControls n gs))
-      ≡ sumFrom (λ i. length (keep (λ a. m (faultOf 4 i a 0)) (keep (isOther (gateAt gs i)) (upFrom 0 n)))) 1 (length gs)
-  unfolding extraControls
-  count-extra-controls =
-      count-places m (λ i. each (λ a. faultOf 4 i a 0 ∷ []) (keep (isOther (gateAt gs i)) (upFrom 0 n))) 1 (length gs)
-      ∙ sum-cong _ _ 1 (length gs) (λ i l h. count-one m (λ a. faultOf 4 i a 0) (keep (isOther (gateAt gs i)) (upFrom 0 n)))
 
 -- ---- the first that passes, place by place
 

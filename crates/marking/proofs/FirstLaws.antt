@@ -12,12 +12,14 @@ use borrow.Author.Tests.{eqb-true, eqb-false, eq-eqb}
 use Rattle.basics.specs.Choice.{choice}
 use Rattle.basics.specs.Lists.{upFrom, keep, each}
 use Rattle.basics.proofs.Tests.{by-test, and-both, or-neither}
+use Rattle.basics.proofs.Lists.{keep-cong}
 use Rattle.basics.proofs.ListMore.{keep-append}
 use Rattle.words.specs.Word.{bit, linesOn}
 use Rattle.words.specs.WordOf.{lacking}
 use Rattle.words.proofs.Bits.{bit-le}
 use Rattle.words.proofs.AndLaws.{lacking-lt, lacking-or-lt, lines-zero, lowest-first, lowest-on, on-lacking, on-lacking-or, lines-lacking}
 use Rattle.words.proofs.AndLaws.{lines-lacking-or}
+use Rattle.circuit.specs.Limits.{mostLines}
 use Rattle.circuit.specs.declared.Gate.{Gate}
 use Rattle.faults.specs.Sites.{sites}
 use Rattle.faults.specs.declared.Fault.{Fault}
@@ -27,7 +29,8 @@ use Rattle.marking.specs.Marks.{levelMarked, gateMarked}
 use Rattle.marking.specs.Firsts.{firstTold}
 use Rattle.marking.specs.Tallies.{gateLines}
 use Rattle.marking.proofs.Counting.{passed-to, found-to}
-use Rattle.marking.proofs.TallyLaws.{gatePlace, class-places, gate-lines-lt, word-at}
+use Rattle.marking.proofs.TallyLaws.{gatePlace, class-places, gate-mark}
+use Rattle.marking.proofs.FaultLines.{gate-lines-lt}
 
 -- ---- what is kept of one fault made of each line, and of two
 
@@ -82,21 +85,20 @@ abbrev pub gateLacks : ℕ → List Gate → ℕ → List ℕ → ℕ → ℕ
 gateLacks n gs class ws i = lacking (gateLines n gs class (i + 1)) (getD ws i 0)
 
 -- from the first gate on it is the whole class
-pub gates-start : (n : ℕ) (gs : List Gate) (class : ℕ) (ws : List ℕ) (e : ℕ) → 1 ≤ n → 2 ≤ class → class ≤ 4 → e ≡ length gs
+pub gates-start : (n : ℕ) (gs : List Gate) (class : ℕ) (ws : List ℕ) (e : ℕ) → 1 ≤ n → 2 ≤ class → e ≡ length gs
     → keep (gateLeft ws) (classFaults n gs class) ≡ keep (gateLeft ws) (each (gatePlace n gs class) (upFrom (0 + 1) (e + 1 - (0 + 1))))
-gates-start n gs class ws e some lo hi q =
+gates-start n gs class ws e some lo q =
     let k : length gs ≡ e + 1 - (0 + 1) = omega arith in
-    ap (keep (gateLeft ws)) (class-places n gs class some lo hi ∙ ap (λ m. each (gatePlace n gs class) (upFrom 1 m)) k)
+    ap (keep (gateLeft ws)) (class-places n gs class some lo ∙ ap (λ m. each (gatePlace n gs class) (upFrom 1 m)) k)
 
 module _ (n : ℕ) (gs : List Gate) (class : ℕ) (ws : List ℕ) (i e : ℕ) (h : i < e) where
   -- one fault at each such line
   gate-left : keep (gateLeft ws) (gatePlace n gs class (i + 1)) ≡ each (λ j. faultOf class (i + 1) j 0 ∷ []) (linesOn n (gateLacks n gs class ws i))
-  unfolding faultOf
   gate-left =
-      keep-ones (gateLeft ws) (λ j. faultOf class (i + 1) j 0) (linesOn n (gateLines n gs class (i + 1)))
+      let mask : ℕ = gateLines n gs class (i + 1) in
+      keep-ones (gateLeft ws) (λ j. faultOf class (i + 1) j 0) (linesOn n mask)
       ∙ ap (each (λ j. faultOf class (i + 1) j 0 ∷ []))
-      (sym (lines-lacking n (gateLines n gs class (i + 1)) (getD ws (i + 1 - 1) 0))
-      ∙ ap (λ w. linesOn n (lacking (gateLines n gs class (i + 1)) w)) (word-at ws i))
+      (keep-cong (λ j. ap not (gate-mark ws class i j)) (linesOn n mask) ∙ sym (lines-lacking n mask (getD ws i 0)))
 
   -- none is left at this gate
   pub gate-passed : gateLacks n gs class ws i ≡ 0
@@ -108,15 +110,15 @@ module _ (n : ℕ) (gs : List Gate) (class : ℕ) (ws : List ℕ) (i e : ℕ) (h
       (gate-left ∙ ap (each (λ j. faultOf class (i + 1) j 0 ∷ [])) (ap (linesOn n) z ∙ lines-zero n))
 
   -- some is left, and the lowest line is the first
-  pub gate-found : 1 ≤ n → n ≤ 32 → gateLacks n gs class ws i ≢ 0
+  pub gate-found : n ≤ mostLines → gateLacks n gs class ws i ≢ 0
       → firstTold (keep (gateLeft ws) (each (gatePlace n gs class) (upFrom (i + 1) (e + 1 - (i + 1)))))
-      ≡ 0 ∷ class ∷ (i + 1) ∷ getD (linesOn 32 (gateLacks n gs class ws i)) 0 0 ∷ 0 ∷ []
+      ≡ 0 ∷ class ∷ (i + 1) ∷ getD (linesOn mostLines (gateLacks n gs class ws i)) 0 0 ∷ 0 ∷ []
   unfolding each faultOf
-  gate-found some wide d =
+  gate-found wide d =
       ap firstTold (found-to (gateLeft ws) (gatePlace n gs class) (i + 1) (e + 1) _ _ (omega arith)
       (gate-left ∙ ap (each (λ j. faultOf class (i + 1) j 0 ∷ []))
       (lowest-first n (gateLacks n gs class ws i) wide
-      (lacking-lt n (gateLines n gs class (i + 1)) (getD ws i 0) (gate-lines-lt n gs class (i + 1) some)) d)))
+      (lacking-lt n (gateLines n gs class (i + 1)) (getD ws i 0) (gate-lines-lt n gs class (i + 1))) d)))
 
 -- ---- a level: the lines that either of its words of marks lacks
 
@@ -170,12 +172,12 @@ module _ (n : ℕ) (gs : List Gate) (at0 at1 : List ℕ) (i e : ℕ) (h : i < e)
   level-passed z = passed-to (levelLeft at0 at1) (levelPlace n gs) i e h (level-left ∙ ap (each both) (ap (linesOn n) z ∙ lines-zero n))
 
   -- some is left: the lowest line, and value 0 where it is left
-  module _ (wide : n ≤ 32) (d : bitOr (levelLacks n gs at0 i) (levelLacks n gs at1 i) ≢ 0) where
+  module _ (wide : n ≤ mostLines) (d : bitOr (levelLacks n gs at0 i) (levelLacks n gs at1 i) ≢ 0) where
     word : ℕ
     word = bitOr (levelLacks n gs at0 i) (levelLacks n gs at1 i)
 
     line : ℕ
-    line = getD (linesOn 32 word) 0 0
+    line = getD (linesOn mostLines word) 0 0
 
     below : word < 2 ^ n
     unfolding word
@@ -199,8 +201,8 @@ module _ (n : ℕ) (gs : List Gate) (at0 at1 : List ℕ) (i e : ℕ) (h : i < e)
         (choice (levelLeft at0 at1 (faultOf 1 i line 1)) (faultOf 1 i line 1 ∷ []) []) []) (v .1))
 
     pub level-found : (f : Fault)
-        → f ≡ faultOf 1 i (getD (linesOn 32 (bitOr (levelLacks n gs at0 i) (levelLacks n gs at1 i))) 0 0)
-        (1 - bit (levelLacks n gs at0 i) (getD (linesOn 32 (bitOr (levelLacks n gs at0 i) (levelLacks n gs at1 i))) 0 0))
+        → f ≡ faultOf 1 i (getD (linesOn mostLines (bitOr (levelLacks n gs at0 i) (levelLacks n gs at1 i))) 0 0)
+        (1 - bit (levelLacks n gs at0 i) (getD (linesOn mostLines (bitOr (levelLacks n gs at0 i) (levelLacks n gs at1 i))) 0 0))
         → firstTold (keep (levelLeft at0 at1) (each (levelPlace n gs) (upFrom i (e - i)))) ≡ 0 ∷ f .class ∷ f .place ∷ f .line ∷ f .value ∷ []
     unfolding word line
     level-found f same =

@@ -1,24 +1,36 @@
 -- The turns of the marking loops, on the terms that code makes: one word is marked, and the state goes one level up.
-use Prim.Native.Nat.{ℕ, _+_, _-_, _^_, _≤_, _<_}
+use Prim.Native.Nat.{ℕ, _+_, _-_, _/_, _≤_, _<_}
 use mathlib.Core.Path.{_≡_, refl, sym, ap, _∙_}
 use mathlib.Core.List.{List, []}
 use native.Mathlib.Numerals.{add-one}
 use native.Mathlib.Omega.{arith}
-use lib.Bits.{bitOr, bitXor}
-use lib.ListN.{length, getD, take, set}
+use lib.Bits.{bitAnd}
+use lib.ListN.{length, getD, take}
 use lib.Seq.{take-all}
-use Rattle.basics.specs.Choice.{choice}
-use Rattle.words.specs.Word.{allOnes}
-use Rattle.words.specs.WordOf.{loneZero}
-use Rattle.words.proofs.Inverse.{inverse-code}
+use Rattle.words.specs.WordOf.{lacking}
 use Rattle.circuit.specs.Gates.{gatesOf, gateAt}
-use Rattle.circuit.specs.Runs.{fires, step, forward}
-use Rattle.circuit.specs.Sound.{Sound}
+use Rattle.circuit.specs.Limits.{mostLines}
+use Rattle.circuit.specs.Runs.{step, forward}
+use Rattle.circuit.specs.Sound.{GateOk, Sound}
 use Rattle.circuit.specs.declared.Gate.{Gate}
-use Rattle.circuit.proofs.RunLaws.{level-step}
-use Rattle.marking.specs.Marks.{marked, levelMarks, gateMarks}
-use Rattle.marking.proofs.MarkedLaws.{mark-more, level-mark-at, gate-mark-at}
-use Rattle.marking.proofs.MarkLaws.{level-zero, level-one, gate-fires, gate-lone, gate-extra}
+use Rattle.circuit.proofs.GateLaws.{gates-count}
+use Rattle.circuit.proofs.RuleLaws.{gate-ok, target-fits}
+use Rattle.circuit.proofs.RunLaws.{forward-none, level-step}
+use Rattle.faults.specs.Sites.{sites}
+use Rattle.marking.specs.Marks.{caughtAtGate, markedAt, marked, levelMarks, gateMarks}
+use Rattle.marking.proofs.MarkedLaws.{mark-more, level-marks-length, gate-marks-length, level-mark-at, gate-mark-at}
+use Rattle.marking.proofs.MarkLaws.{level-zero, level-one, gate-caught}
+
+-- ---- a walk up the levels
+
+-- a vector has been run through i gates of a circuit that has `last` of them
+pub record Walk (gates : List ℕ) (x last s i : ℕ) : Type 0 where
+  pub last-is : last ≡ length (gatesOf gates)
+  pub within : i ≤ last
+  pub here : s ≡ forward (gatesOf gates) i x
+
+pub walk-start : (gates : List ℕ) (x : ℕ) → Walk gates x (length gates / 3) x 0
+walk-start gates x = record { last-is = sym (gates-count gates); within = omega arith; here = sym (forward-none (gatesOf gates) x) }
 
 -- ---- marks, a word at a time
 
@@ -26,47 +38,64 @@ pub mark-none : (ws : List ℕ) → ws ≡ marked ws []
 unfolding marked
 mark-none ws = refl
 
-pub mark-turn : (ws ms now : List ℕ) (i word : ℕ) → i < length ms → now ≡ marked ws (take i ms) → word ≡ getD ms i 0
-    → set now i (bitOr (getD now i 0) word) ≡ marked ws (take (i + 1) ms)
-mark-turn ws ms now i word h e w = rw (e, w, add-one i) (mark-more ws ms i h)
+mark-turn : (ws ms now : List ℕ) (i k word : ℕ) → i < length ms → now ≡ marked ws (take i ms) → k ≡ i → word ≡ getD ms i 0
+    → markedAt now k word ≡ marked ws (take (i + 1) ms)
+mark-turn ws ms now i k word h e level w = rw (e, level, w, add-one i) (mark-more ws ms i h)
 
-pub mark-done : (ws ms now : List ℕ) (k : ℕ) → length ms ≤ k → now ≡ marked ws (take k ms) → now ≡ marked ws ms
+mark-done : (ws ms now : List ℕ) (k : ℕ) → length ms ≤ k → now ≡ marked ws (take k ms) → now ≡ marked ws ms
 mark-done ws ms now k h e = e ∙ ap (marked ws) (take-all k ms h)
 
--- ---- the words that are marked
+-- ---- one turn
 
-module _ (n : ℕ) (words : List ℕ) (x i s : ℕ) (ok : Sound n words) (fits : x < 2 ^ n) (here : s ≡ forward (gatesOf words) i x) where
-  pub level-word-0 : i ≤ length (gatesOf words) → s ≡ getD (levelMarks n (gatesOf words) 0 x) i 0
-  level-word-0 h = here ∙ sym (level-mark-at n (gatesOf words) 0 x i h ∙ level-zero n (gatesOf words) (ok .gates-ok) x fits i h)
+module _ (n : ℕ) (gates : List ℕ) (ok : Sound n gates) (x last s i : ℕ) (walk : Walk gates x last s i) where
+  -- the marks of this level, stuck at 0 and stuck at 1
+  module _ (k : ℕ) (level : k ≡ i) (ws now : List ℕ) where
+    pub level-turn-0 : now ≡ marked ws (take i (levelMarks n (gatesOf gates) 0 x))
+        → markedAt now k (bitAnd s (sites n (gatesOf gates) k)) ≡ marked ws (take (i + 1) (levelMarks n (gatesOf gates) 0 x))
+    level-turn-0 e =
+        let h : i ≤ length (gatesOf gates) = omega arith in
+        mark-turn ws (levelMarks n (gatesOf gates) 0 x) now i k _ (omega (arith, level-marks-length n (gatesOf gates) 0 x)) e level
+        (rw (level, walk .here) (sym (level-mark-at n (gatesOf gates) 0 x i h ∙ level-zero n (gatesOf gates) (ok .gates-ok) x i h)))
 
-  pub level-word-1 : (ones : ℕ) → ones ≡ allOnes n → i ≤ length (gatesOf words) → bitXor s ones ≡ getD (levelMarks n (gatesOf words) 1 x) i 0
-  level-word-1 ones e h =
-      ap (bitXor s) e ∙ inverse-code n s
-      ∙ rw here (sym (level-mark-at n (gatesOf words) 1 x i h ∙ level-one n (gatesOf words) (ok .gates-ok) x fits i h))
+    pub level-turn-1 : now ≡ marked ws (take i (levelMarks n (gatesOf gates) 1 x))
+        → markedAt now k (lacking (sites n (gatesOf gates) k) s) ≡ marked ws (take (i + 1) (levelMarks n (gatesOf gates) 1 x))
+    level-turn-1 e =
+        let h : i ≤ length (gatesOf gates) = omega arith in
+        mark-turn ws (levelMarks n (gatesOf gates) 1 x) now i k _ (omega (arith, level-marks-length n (gatesOf gates) 1 x)) e level
+        (rw (level, walk .here) (sym (level-mark-at n (gatesOf gates) 1 x i h ∙ level-one n (gatesOf gates) (ok .gates-ok) x i h)))
 
-  -- gate i + 1, which reads level i
-  module _ (g : Gate) (gate : g ≡ gateAt (gatesOf words) (i + 1)) (h : i < length (gatesOf words)) where
+  -- after the last
+  pub levels-done : (value : ℕ) (ws now : List ℕ) → last ≤ i → now ≡ marked ws (take (i + 1) (levelMarks n (gatesOf gates) value x))
+      → now ≡ marked ws (levelMarks n (gatesOf gates) value x)
+  levels-done value ws now h e = mark-done ws _ now (i + 1) (omega (arith, level-marks-length n (gatesOf gates) value x)) e
+
+  -- the gate that reads this level
+  module _ (more : i < last) (g : Gate) (k : ℕ) (is : g ≡ gateAt (gatesOf gates) k) (number : k ≡ i + 1) where
     before : i + 1 - 1 ≡ i
     before = omega arith
 
-    pub next-state : step g s ≡ forward (gatesOf words) (i + 1) x
-    next-state = rw (gate, here) (sym (simp before at (level-step (gatesOf words) (i + 1) x (omega arith) (omega arith))))
+    pub walk-gate-ok : GateOk n g
+    walk-gate-ok = rw (is, number) (gate-ok n gates (i + 1) ok (omega arith) (omega arith))
 
-    pub fired-word : (ones : ℕ) → ones ≡ allOnes n → choice (fires g s) ones 0 ≡ getD (gateMarks n (gatesOf words) 2 x) i 0
-    fired-word ones e =
-        rw (gate, here, e)
-        (sym (simp before at (gate-mark-at n (gatesOf words) 2 x (i + 1) (omega arith) (omega arith)
-        ∙ gate-fires n (gatesOf words) (ok .gates-ok) x fits (i + 1) (omega arith) (omega arith))))
+    pub walk-target : g .target < mostLines
+    walk-target = rw (is, number) (target-fits n gates (i + 1) ok (omega arith) (omega arith))
 
-    pub lone-word : loneZero (g .controls) s ≡ getD (gateMarks n (gatesOf words) 3 x) i 0
-    lone-word =
-        rw (gate, here)
-        (sym (simp before at (gate-mark-at n (gatesOf words) 3 x (i + 1) (omega arith) (omega arith)
-        ∙ gate-lone n (gatesOf words) (ok .gates-ok) x fits (i + 1) (omega arith) (omega arith) (ok .lines-fit))))
+    pub walk-more : Walk gates x last (step g s) (i + 1)
+    walk-more = record {
+      last-is = walk .last-is;
+      within = omega arith;
+      here = rw (is, number, walk .here) (sym (simp before at (level-step (gatesOf gates) (i + 1) x (omega arith) (omega arith))));
+    }
 
-    pub extra-word : (ones : ℕ) → ones ≡ allOnes n → choice (fires g s) (bitXor s ones) 0 ≡ getD (gateMarks n (gatesOf words) 4 x) i 0
-    extra-word ones e =
-        ap (λ w. choice (fires g s) w 0) (ap (bitXor s) e ∙ inverse-code n s)
-        ∙ rw (gate, here)
-        (sym (simp before at (gate-mark-at n (gatesOf words) 4 x (i + 1) (omega arith) (omega arith)
-        ∙ gate-extra n (gatesOf words) (ok .gates-ok) x fits (i + 1) (omega arith) (omega arith))))
+    -- its marks
+    pub gate-turn : (class : ℕ) → 2 ≤ class → (ws now : List ℕ) → now ≡ marked ws (take i (gateMarks n (gatesOf gates) class x))
+        → markedAt now i (caughtAtGate class n g s) ≡ marked ws (take (i + 1) (gateMarks n (gatesOf gates) class x))
+    gate-turn class some ws now e =
+        mark-turn ws (gateMarks n (gatesOf gates) class x) now i i _ (omega (arith, gate-marks-length n (gatesOf gates) class x)) e refl
+        (rw (is, number, walk .here)
+        (sym (simp before at (gate-mark-at n (gatesOf gates) class x (i + 1) (omega arith) (omega arith)
+        ∙ gate-caught n (gatesOf gates) (ok .gates-ok) x (i + 1) (omega arith) (omega arith) class (λ e. omega arith)))))
+
+  pub gates-done : (class : ℕ) (ws now : List ℕ) → last ≤ i → now ≡ marked ws (take i (gateMarks n (gatesOf gates) class x))
+      → now ≡ marked ws (gateMarks n (gatesOf gates) class x)
+  gates-done class ws now h e = mark-done ws _ now i (omega (arith, gate-marks-length n (gatesOf gates) class x)) e

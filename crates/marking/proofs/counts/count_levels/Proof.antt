@@ -1,27 +1,25 @@
--- `judge::tallies::count_levels` meets its contract: each turn adds the ones of the sites that are marked, of each value. Assumes nothing.
-use Prim.Native.Nat.{_+_, _-_, _*_, _/_, _≤_}
-use mathlib.Core.Path.{_≡_, ap, _∙_}
+-- `marking::counts::count_levels` meets its contract: each turn adds the ones of the sites that are marked, of each value. Assumes nothing.
+use Prim.Native.Nat.{_+_, _-_, _≤_}
+use mathlib.Core.Path.{ap, ap₂, _∙_}
 use native.Mathlib.Omega.{arith}
 use lib.ListN.{length, getD}
 use lib.Bits.{bitAnd}
 use borrow.Author.Needs.{needs}
 use Rattle.basics.specs.Lists.{keep}
-use Rattle.basics.specs.Sums.{sumFrom}
-use Rattle.basics.proofs.SumLaws.{sum-more, sum-end}
 use Rattle.words.specs.Word.{linesOn}
 use Rattle.circuit.specs.Gates.{gatesOf}
+use Rattle.circuit.specs.Limits.{mostLines}
 use Rattle.circuit.proofs.GateLaws.{gates-count}
 use Rattle.faults.specs.Classes.{stuckFaults}
+use Rattle.faults.specs.Sites.{sites}
 use Rattle.marking.specs.Marks.{levelMarked}
-use Rattle.marking.proofs.TallyLaws.{levelCount, ones-le, count-levels-sum}
+use Rattle.marking.proofs.TallyLaws.{levelCount, ones-le, Adding, adding-start, adding-more, adding-done, count-levels-sum}
 use Rattle.marking.proofs.counts.count_levels.Statement.{statement}
 use Rattle.marking.proofs.counts.count_levels.Tie as tie
 
 abbrev Inv-loop : tie.InvT-loop
 Inv-loop lines gates at-0 at-1 end sum₀ i₀ sum i =
-    (i ≤ end) × ((sum ≤ 64 * i) ×
-    (sum + sumFrom (levelCount lines (gatesOf gates) at-0 at-1) i (end - i)
-    ≡ length (keep (levelMarked at-0 at-1) (stuckFaults lines (gatesOf gates)))))
+    Adding (levelCount lines (gatesOf gates) at-0 at-1) (length (keep (levelMarked at-0 at-1) (stuckFaults lines (gatesOf gates)))) end sum i
 
 abbrev μ-loop : tie.MeasureT-loop
 μ-loop lines gates at-0 at-1 end sum₀ i₀ sum i = end - i
@@ -31,58 +29,47 @@ add-end c = omega arith
 
 loop-holds : tie.Need-loop-holds Inv-loop μ-loop
 loop-holds c =
-    let s = c .before in
-    let gs = gatesOf (s .args .gates .now) in
-    let all : length (s .args .gates .now) / 3 + 1 - 0 ≡ length gs + 1 = omega (arith, gates-count (s .args .gates .now)) in
-    let sum = count-levels-sum (s .args .lines) gs (s .pre .lines-fit) (s .args .at-0 .now) (s .args .at-1 .now) in
-    (omega arith, (omega arith, rw all (omega (arith, sum))))
+    let start = c .before in
+    let a = start .args in
+    let gs = gatesOf (a .gates .now) in
+    adding-start _ _ _ (length gs + 1) (omega (arith, gates-count (a .gates .now))) (omega arith)
+    (count-levels-sum (a .lines) gs (start .pre .lines-fit) (a .at-0 .now) (a .at-1 .now))
 
-cast-sites-at : tie.Need-cast-sites-at Inv-loop μ-loop
-cast-sites-at c =
-    let s = c .before .before .before in
-    omega (arith, gates-count (s .args .gates .now), s .pre .gates-fit)
+level-requires : tie.Need-level-requires Inv-loop μ-loop
+level-requires c κs = search needs
 
 sites-at-requires : tie.Need-sites-at-requires Inv-loop μ-loop
 sites-at-requires c κs = search needs
 
 mul-ones : tie.Need-mul-ones Inv-loop μ-loop
-mul-ones c =
-    let s = c .before .before .before .before in
-    omega (arith, gates-count (s .args .gates .now), s .pre .gates-fit)
+mul-ones c = omega arith
 
 element-copy-out-ones : tie.Need-element-copy-out-ones Inv-loop μ-loop
-element-copy-out-ones c =
-    let s = c .before .before .before .before in
-    omega (arith, gates-count (s .args .gates .now), s .pre .gates-fit)
+element-copy-out-ones c = omega arith
 
 ones-requires : tie.Need-ones-requires Inv-loop μ-loop
 ones-requires c κs = search needs
 
 mul-ones-2 : tie.Need-mul-ones-2 Inv-loop μ-loop
-mul-ones-2 c =
-    let s = c .before .before .before .before .before .before in
-    omega (arith, gates-count (s .args .gates .now), s .pre .gates-fit)
+mul-ones-2 c = omega arith
 
 element-copy-out-ones-2 : tie.Need-element-copy-out-ones-2 Inv-loop μ-loop
-element-copy-out-ones-2 c =
-    let s = c .before .before .before .before .before .before in
-    omega (arith, gates-count (s .args .gates .now), s .pre .gates-fit)
+element-copy-out-ones-2 c = omega arith
 
 ones-requires-2 : tie.Need-ones-requires-2 Inv-loop μ-loop
 ones-requires-2 c κs = search needs
 
 add-sum : tie.Need-add-sum Inv-loop μ-loop
 add-sum c =
-    let few : c .before .before .ones .result ≤ 32 = rw (c .before .before .ones .ensures) (ones-le _) in
-    let few2 : c .ones2 .result ≤ 32 = rw (c .ones2 .ensures) (ones-le _) in
+    let few : c .before .before .ones .result ≤ mostLines = rw (c .before .before .ones .ensures) (ones-le _) in
+    let few2 : c .ones2 .result ≤ mostLines = rw (c .ones2 .ensures) (ones-le _) in
     omega arith
 
 add-sum-2 : tie.Need-add-sum-2 Inv-loop μ-loop
 add-sum-2 c =
-    let s = c .before .before .before .before .before .before .before .before in
-    let few : c .before .before .ones .result ≤ 32 = rw (c .before .before .ones .ensures) (ones-le _) in
-    let few2 : c .ones2 .result ≤ 32 = rw (c .ones2 .ensures) (ones-le _) in
-    omega (arith, gates-count (s .args .gates .now), s .pre .gates-fit)
+    let few : c .before .before .ones .result ≤ mostLines = rw (c .before .before .ones .ensures) (ones-le _) in
+    let few2 : c .ones2 .result ≤ mostLines = rw (c .ones2 .ensures) (ones-le _) in
+    omega arith
 
 add-i : tie.Need-add-i Inv-loop μ-loop
 add-i c = omega arith
@@ -92,26 +79,23 @@ loop-less c = omega arith
 
 loop-again : tie.Need-loop-again Inv-loop μ-loop
 loop-again c =
-    let l = c .before .before .before .before .before .before in
+    let first = c .before .before in
+    let found = first .before .before in
+    let turn = found .before .before in
+    let l = turn .before in
     let a = l .before .before .args in
     let gs = gatesOf (a .gates .now) in
-    let f = levelCount (a .lines) gs (a .at-0 .now) (a .at-1 .now) in
-    let ones = c .before .before .ones in
-    let few : ones .result ≤ 32 = rw (ones .ensures) (ones-le _) in
-    let few2 : c .ones2 .result ≤ 32 = rw (c .ones2 .ensures) (ones-le _) in
-    let sites = c .before .before .before .before .sites-at .ensures in
-    let here = ones .ensures ∙ ap (λ m. length (linesOn 32 (bitAnd (getD (a .at-0 .now) (l .loop .i) 0) m))) sites in
-    let here2 = c .ones2 .ensures ∙ ap (λ m. length (linesOn 32 (bitAnd (getD (a .at-1 .now) (l .loop .i) 0) m))) sites in
-    let more = sum-more f (l .loop .i) (length (a .gates .now) / 3 + 1) (omega arith) in
-    (omega arith, (omega arith, omega (arith, here, here2, more, l .loop .inv .1 .1)))
+    let i = l .loop .i in
+    let few : first .ones .result ≤ mostLines = rw (first .ones .ensures) (ones-le _) in
+    let few2 : c .ones2 .result ≤ mostLines = rw (c .ones2 .ensures) (ones-le _) in
+    let here = found .sites-at .ensures ∙ ap (sites (a .lines) gs) (found .before .level .ensures) in
+    adding-more _ _ _ (l .loop .sum) i (l .loop .inv) _ (turn .loop-test .taken)
+    (ap₂ _+_ (first .ones .ensures ∙ ap (λ m. length (linesOn mostLines (bitAnd (getD (a .at-0 .now) i 0) m))) here)
+    (c .ones2 .ensures ∙ ap (λ m. length (linesOn mostLines (bitAnd (getD (a .at-1 .now) i 0) m))) here))
+    (omega arith)
 
 returns : tie.Need-returns Inv-loop μ-loop
-returns c =
-    let l = c .before in
-    let a = l .before .before .args in
-    let f = levelCount (a .lines) (gatesOf (a .gates .now)) (a .at-0 .now) (a .at-1 .now) in
-    let last = sum-end f (l .loop .i) (length (a .gates .now) / 3 + 1) (omega arith) in
-    omega (arith, l .loop .inv .1 .1, last)
+returns c = let l = c .before in adding-done _ _ _ (l .loop .sum) (l .loop .i) (l .loop .inv) (c .loop-test .left)
 
 pub count-levels-spec : {M : Type 1} → statement M
 count-levels-spec =
@@ -121,7 +105,7 @@ count-levels-spec =
     μ-loop
     add-end
     loop-holds
-    cast-sites-at
+    level-requires
     sites-at-requires
     mul-ones
     element-copy-out-ones

@@ -1,4 +1,4 @@
--- `judge::tallies::first_at_level` meets its contract: the lowest line of either word, with value 0 where the first word has it. Assumes nothing.
+-- `marking::counts::first_at_level` meets its contract: the lowest line of either word, with value 0 where the first word has it. Assumes nothing.
 use native.Mathlib.Omega.{arith}
 use borrow.Author.Needs.{needs}
 use Rattle.words.proofs.Bits.{bit-le}
@@ -18,9 +18,12 @@ value-requires c κs =
 sub-value : tie.Need-sub-value
 sub-value c = rw (c .value .ensures) (bit-le _ _)
 
+told-level-requires : tie.Need-told-level-requires
+told-level-requires c κs = search needs
+
 returns : tie.Need-returns
 unfolding faultOf
-returns c = rw (c .value .ensures, c .before .lowest .ensures)
+returns c = rw (c .told-level .ensures, c .before .value .ensures, c .before .before .lowest .ensures)
 
 pub first-at-level-spec : {M : Type 1} → statement M
-first-at-level-spec = tie.close (tie.spec lowest-requires value-requires sub-value returns)
+first-at-level-spec = tie.close (tie.spec lowest-requires value-requires sub-value told-level-requires returns)

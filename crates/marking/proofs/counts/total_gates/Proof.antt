@@ -1,55 +1,55 @@
--- `judge::tallies::total_gates` meets its contract: each turn adds the ones of the gate's lines, which are its faults. Assumes nothing.
-use Prim.Native.Nat.{_+_, _-_, _*_, _/_, _≤_}
-use mathlib.Core.Path.{_≡_, ap, _∙_}
+-- `marking::counts::total_gates` meets its contract: each turn adds the ones of the gate's lines, which are its faults. Assumes nothing.
+use Prim.Native.Nat.{_+_, _-_, _≤_}
+use mathlib.Core.Path.{_≡_, sym, ap, _∙_}
 use native.Mathlib.Omega.{arith}
 use lib.ListN.{length}
 use borrow.Author.Needs.{needs}
-use Rattle.basics.specs.Sums.{sumFrom}
-use Rattle.basics.proofs.SumLaws.{sum-more, sum-end}
 use Rattle.words.specs.Word.{linesOn}
 use Rattle.circuit.specs.Gates.{gatesOf}
+use Rattle.circuit.specs.Limits.{mostLines}
 use Rattle.circuit.proofs.GateLaws.{gates-count}
 use Rattle.faults.specs.Classes.{classFaults}
-use Rattle.marking.proofs.TallyLaws.{gateTotal, ones-le, total-gates-sum}
+use Rattle.marking.specs.Tallies.{gateLines}
+use Rattle.marking.proofs.TallyLaws.{gateTotal, ones-le, Adding, adding-start, adding-more, adding-done, total-gates-sum}
 use Rattle.marking.proofs.counts.total_gates.Statement.{statement}
 use Rattle.marking.proofs.counts.total_gates.Tie as tie
 
 abbrev Inv-loop : tie.InvT-loop
 Inv-loop class lines gates end sum₀ i₀ sum i =
-    (i ≤ end) × ((sum ≤ 32 * i) ×
-    (sum + sumFrom (gateTotal lines (gatesOf gates) class) i (end - i)
-    ≡ length (classFaults lines (gatesOf gates) class)))
+    (end ≡ length (gatesOf gates))
+    × Adding (gateTotal lines (gatesOf gates) class) (length (classFaults lines (gatesOf gates) class)) end sum i
 
 abbrev μ-loop : tie.MeasureT-loop
 μ-loop class lines gates end sum₀ i₀ sum i = end - i
 
 loop-holds : tie.Need-loop-holds Inv-loop μ-loop
 loop-holds c =
-    let s = c .before in
-    let gs = gatesOf (s .args .gates .now) in
-    let all : length (s .args .gates .now) / 3 - 0 ≡ length gs = omega (arith, gates-count (s .args .gates .now)) in
-    let sum = total-gates-sum (s .args .lines) gs (s .pre .0 .lines-fit) (s .args .class) (s .pre .0 .some-lines) (s .pre .1 .0) (s .pre .1 .1) in
-    (omega arith, (omega arith, rw all (omega (arith, sum))))
+    let start = c .before in
+    let a = start .args in
+    let ok = start .pre .0 in
+    let gs = gatesOf (a .gates .now) in
+    let end = sym (gates-count (a .gates .now)) in (
+      end,
+      adding-start _ _ _ (length gs) end (omega arith)
+          (total-gates-sum (a .lines) gs (ok .lines-fit) (a .class) (ok .some-lines) (start .pre .1)),
+    )
 
-add-gate : tie.Need-add-gate Inv-loop μ-loop
-add-gate c = omega arith
+level-requires : tie.Need-level-requires Inv-loop μ-loop
+level-requires c κs = search needs
 
-gate-requires : tie.Need-gate-requires Inv-loop μ-loop
-gate-requires c κs = search needs
+gate-after-requires : tie.Need-gate-after-requires Inv-loop μ-loop
+gate-after-requires c κs = omega arith
 
 gate-lines-requires : tie.Need-gate-lines-requires Inv-loop μ-loop
-gate-lines-requires c κs =
-    let s = c .before .before .before .before in
-    (s .pre .0, (omega (arith, c .gate .ensures), omega (arith, c .gate .ensures, gates-count (s .args .gates .now))))
+gate-lines-requires c κs = search needs
 
 ones-requires : tie.Need-ones-requires Inv-loop μ-loop
 ones-requires c κs = search needs
 
 add-sum : tie.Need-add-sum Inv-loop μ-loop
 add-sum c =
-    let s = c .before .before .before .before .before .before in
-    let few : c .ones .result ≤ 32 = rw (c .ones .ensures) (ones-le _) in
-    omega (arith, gates-count (s .args .gates .now), s .pre .0 .gates-fit)
+    let few : c .ones .result ≤ mostLines = rw (c .ones .ensures) (ones-le _) in
+    omega arith
 
 add-i : tie.Need-add-i Inv-loop μ-loop
 add-i c = omega arith
@@ -59,22 +59,21 @@ loop-less c = omega arith
 
 loop-again : tie.Need-loop-again Inv-loop μ-loop
 loop-again c =
-    let l = c .before .before .before .before in
+    let lined = c .before in
+    let numbered = lined .before in
+    let turn = numbered .before .before in
+    let l = turn .before in
     let a = l .before .before .args in
-    let gs = gatesOf (a .gates .now) in
-    let few : c .ones .result ≤ 32 = rw (c .ones .ensures) (ones-le _) in
-    let lines = rw (c .before .before .gate .ensures) at (c .before .gate-lines .ensures) in
-    let here : c .ones .result ≡ gateTotal (a .lines) gs (a .class) (l .loop .i) = c .ones .ensures ∙ ap (λ m. length (linesOn 32 m)) lines in
-    let more = sum-more (gateTotal (a .lines) gs (a .class)) (l .loop .i) (length (a .gates .now) / 3) (omega arith) in
-    (omega arith, (omega arith, omega (arith, here, more, l .loop .inv .1 .1)))
+    let few : c .ones .result ≤ mostLines = rw (c .ones .ensures) (ones-le _) in
+    let number : numbered .gate-after .result .0 ≡ l .loop .i + 1 = omega arith in
+    let lines = lined .gate-lines .ensures ∙ ap (gateLines (a .lines) (gatesOf (a .gates .now)) (a .class)) number in (
+      l .loop .inv .0,
+      adding-more _ _ _ (l .loop .sum) (l .loop .i) (l .loop .inv .1) _ (turn .loop-test .taken)
+          (c .ones .ensures ∙ ap (λ m. length (linesOn mostLines m)) lines) (omega arith),
+    )
 
 returns : tie.Need-returns Inv-loop μ-loop
-returns c =
-    let l = c .before in
-    let a = l .before .before .args in
-    let gs = gatesOf (a .gates .now) in
-    let last = sum-end (gateTotal (a .lines) gs (a .class)) (l .loop .i) (length (a .gates .now) / 3) (omega arith) in
-    omega (arith, l .loop .inv .1 .1, last)
+returns c = let l = c .before in adding-done _ _ _ (l .loop .sum) (l .loop .i) (l .loop .inv .1) (c .loop-test .left)
 
 pub total-gates-spec : {M : Type 1} → statement M
 total-gates-spec =
@@ -83,8 +82,8 @@ total-gates-spec =
     Inv-loop
     μ-loop
     loop-holds
-    add-gate
-    gate-requires
+    level-requires
+    gate-after-requires
     gate-lines-requires
     ones-requires
     add-sum
