@@ -4,18 +4,19 @@ use mathlib.Core.Path.{_≡_, refl, sym, ap, _∙_}
 use mathlib.Core.Bool.{Bool, true, false, not, _&&_, Bool·beq}
 use native.Mathlib.Omega.{arith}
 use lib.Dec.{eqb}
+use borrow.Author.Tests.{eq-eqb}
 use Rattle.basics.proofs.Tests.{by-test}
 use Rattle.words.specs.Word.{bit}
 use Rattle.words.specs.WordOf.{wordOf, loneZero}
 use Rattle.words.proofs.Bits.{bit-le}
 use Rattle.words.proofs.WordOfLaws.{wordOf-cong, wordOf-wide}
 use Rattle.circuit.specs.Limits.{mostLines}
-use Rattle.circuit.specs.Controls.{isControl, lessControl, stops, stopping}
-use Rattle.circuit.specs.Runs.{fires}
+use Rattle.circuit.specs.Controls.{isControl, lessControl, moreControl, stops, stopping}
+use Rattle.circuit.specs.Runs.{fires, step}
 use Rattle.circuit.specs.Sound.{GateOk}
 use Rattle.circuit.specs.declared.Gate.{Gate}
-use Rattle.circuit.proofs.ControlLaws.{fires-less, control-above}
-use Rattle.circuit.proofs.NoControlLaws.{less-same, lone-control}
+use Rattle.circuit.proofs.ControlLaws.{fires-less, control-above, less-control-differs, more-control-differs}
+use Rattle.circuit.proofs.NoControlLaws.{less-same, more-same, control-off, lone-control}
 
 not-and-self : (b : Bool) → not b && b ≡ false
 not-and-self true = refl
@@ -39,6 +40,21 @@ stops-zero g s c =
     ∙ ap (λ b. b && (eqb (bit s c) 0 && fires less s)) (sym e))
     (λ e. ap (λ h. not (fires g s) && fires h s) (less-same g c e) ∙ not-and-self (fires g s)
     ∙ ap (λ b. b && (eqb (bit s c) 0 && fires less s)) (sym e))
+
+-- without a line as a control the gate does something else where the line alone stops it
+pub less-differs : (g : Gate) (c s : ℕ) → not (eqb (step (lessControl c g) s) (step g s)) ≡ stops g s c
+less-differs g c s =
+    let less : Gate = lessControl c g in
+    by-test (isControl g c)
+    (λ e. less-control-differs g c s e ∙ sym (stops-zero g s c ∙ ap (λ b. b && (eqb (bit s c) 0 && fires less s)) e))
+    (λ e. ap not (eq-eqb (step less s) (step g s) (ap (λ h. step h s) (less-same g c e)))
+    ∙ sym (stops-zero g s c ∙ ap (λ b. b && (eqb (bit s c) 0 && fires less s)) e))
+
+-- with a line as a control too, where the line is 0 and the gate fires
+pub more-differs : (g : Gate) (a s : ℕ) → not (eqb (step (moreControl a g) s) (step g s)) ≡ (eqb (bit s a) 0 && fires g s)
+more-differs g a s = by-test (isControl g a)
+    (λ e. ap not (eq-eqb (step (moreControl a g) s) (step g s) (ap (λ h. step h s) (more-same g a e))) ∙ sym (control-off g a s e))
+    (λ e. more-control-differs g a s e)
 
 -- as code finds them: the one zero of the mask
 pub stopping-code : (n : ℕ) (g : Gate) (s : ℕ) → n ≤ mostLines → GateOk n g → loneZero (g .controls) s ≡ stopping n g s

@@ -3,11 +3,19 @@ use Prim.Native.Nat.{ℕ}
 use mathlib.Core.Path.{_≡_, refl, ap}
 use native.Mathlib.Omega.{arith}
 use Rattle.refusals.proofs.Tables.{told-refusal}
-use Rattle.simulator.specs.Answers.{toldCaught, toldMade}
+use Rattle.simulator.specs.Answers.{toldOutput, toldCaught, toldMade}
+use Rattle.simulator.specs.declared.Output.{Output}
+use Rattle.simulator.specs.declared.Output.the-variants as output
 use Rattle.simulator.specs.declared.Caught.{Caught}
 use Rattle.simulator.specs.declared.Caught.the-variants as caught
 use Rattle.simulator.specs.declared.Made.{Made}
 use Rattle.simulator.specs.declared.Made.the-variants as made
+
+pub told-output-one : (r s : Output) → toldOutput r ≡ toldOutput s → r ≡ s
+told-output-one (output.Word a) (output.Word b) e = cc
+told-output-one (output.Word a) (output.Refused q) e = let z : _≡_ {A = ℕ} 0 1 = cc in absurd (omega arith)
+told-output-one (output.Refused p) (output.Word b) e = let z : _≡_ {A = ℕ} 0 1 = cc in absurd (omega arith)
+told-output-one (output.Refused p) (output.Refused q) e = ap output.Refused (told-refusal p q e)
 
 pub told-caught-one : (r s : Caught) → toldCaught r ≡ toldCaught s → r ≡ s
 told-caught-one caught.Yes caught.Yes e = refl
