@@ -21,6 +21,7 @@ use Rattle.refusals.proofs.Places.{none-bad, none-left}
 use Rattle.circuit.specs.Gates.{gatesOf, gateAt}
 use Rattle.circuit.specs.Controls.{isControl, isOther}
 use Rattle.circuit.specs.declared.Gate.{Gate}
+use Rattle.faults.specs.Limits.{mostEntries}
 use Rattle.faults.specs.Sites.{sites}
 use Rattle.faults.specs.Rules.{isStuckAt, isGate, isMissingGate, isMissingControl, isExtraControl, isFault, faultRows}
 use Rattle.faults.specs.Records.{faultsOf, firstBadRecord}
@@ -176,13 +177,13 @@ module _ (n : ℕ) (words list : List ℕ) where
     unfolding entriesRows
     entries-none e = rw (← is, eq-eqb bad 0 none, eq-eqb (length (faultsOf list)) 0 (records-count list ∙ e))
 
-    pub entries-many : length list / 4 ≢ 0 → 256 < length list / 4 → refused 13 0 ≡ firstOf (entriesRows n words list) fine
+    pub entries-many : length list / 4 ≢ 0 → mostEntries < length list / 4 → refused 13 0 ≡ firstOf (entriesRows n words list) fine
     unfolding entriesRows
     entries-many d h =
         let number = records-count list in
-        rw (← is, eq-eqb bad 0 none, ne-eqb (length (faultsOf list)) 0 (λ e. d (sym number ∙ e)), lt-ltb 256 (length (faultsOf list)) (omega arith))
+        rw (← is, eq-eqb bad 0 none, ne-eqb (length (faultsOf list)) 0 (λ e. d (sym number ∙ e)), lt-ltb mostEntries (length (faultsOf list)) (omega arith))
 
-    pub entries-twice : (twice : Bool) → twice ≡ siteTwice (faultsOf list) → length list / 4 ≢ 0 → length list / 4 ≤ 256
+    pub entries-twice : (twice : Bool) → twice ≡ siteTwice (faultsOf list) → length list / 4 ≢ 0 → length list / 4 ≤ mostEntries
         → firstOf (refuse 13 at 0 when not (not twice) ∷ []) fine ≡ firstOf (entriesRows n words list) fine
     unfolding entriesRows
     entries-twice twice e d h =
@@ -191,7 +192,7 @@ module _ (n : ℕ) (words list : List ℕ) where
           ← is,
           eq-eqb bad 0 none,
           ne-eqb (length (faultsOf list)) 0 (λ q. d (sym number ∙ q)),
-          le-ltb 256 (length (faultsOf list)) (omega arith),
+          le-ltb mostEntries (length (faultsOf list)) (omega arith),
           ← e,
           not-not twice,
         )

@@ -12,6 +12,7 @@ ghost use Rattle.faults.specs.Rules.{isStuckAt, isGate, isMissingGate, i
 ghost use Rattle.faults.specs.Records.{noFault, faultsOf, firstBadRecord};
 ghost use Rattle.faults.specs.Multiple.{badEntry, sameSite, siteTwice, entriesRows};
 use crate::Fault;
+use crate::limits::MOST_ENTRIES;
 use crate::places;
 use crate::records;
 use crate::sites::sites_at;
@@ -212,7 +213,7 @@ pub fn check_entries(lines: u32, gates: &[u32], entries: &[u32]) -> Checked
             place: 0,
         });
     }
-    if 256 < number {
+    if MOST_ENTRIES < number {
         return Checked::Wrong(Refusal {
             number: 13,
             place: 0,

@@ -1,3 +1,4 @@
+pub mod Clashes
 pub mod Tables
 pub mod Places
 pub mod FirstPlaces
