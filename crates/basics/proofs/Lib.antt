@@ -1,4 +1,5 @@
 pub mod Tests
+pub mod Bools
 pub mod All
 pub mod Lists
 pub mod Kept

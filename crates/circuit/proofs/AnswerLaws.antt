@@ -1,14 +1,13 @@
 -- Different answers of a run tell different things.
 use mathlib.Core.Path.{_≡_, ap}
-use Prim.Native.Nat.{ℕ}
-use native.Mathlib.Omega.{arith}
+use Rattle.refusals.proofs.Clashes.{answered-refused, refused-answered}
 use Rattle.refusals.proofs.Tables.{told-refusal}
-use Rattle.circuit.specs.Answers.{told}
+use Rattle.circuit.specs.Answers.{toldRan}
 use Rattle.circuit.specs.declared.Ran.{Ran}
 use Rattle.circuit.specs.declared.Ran.the-variants.{State, Refused}
 
-pub told-one : (r s : Ran) → told r ≡ told s → r ≡ s
-told-one (State a) (State b) e = cc
-told-one (State a) (Refused q) e = let z : _≡_ {A = ℕ} 0 1 = cc in absurd (omega arith)
-told-one (Refused p) (State b) e = let z : _≡_ {A = ℕ} 0 1 = cc in absurd (omega arith)
-told-one (Refused p) (Refused q) e = ap Refused (told-refusal p q e)
+pub told-ran-one : (r s : Ran) → toldRan r ≡ toldRan s → r ≡ s
+told-ran-one (State a) (State b) e = cc
+told-ran-one (State a) (Refused q) e = answered-refused e
+told-ran-one (Refused p) (State b) e = refused-answered e
+told-ran-one (Refused p) (Refused q) e = ap Refused (told-refusal p q e)

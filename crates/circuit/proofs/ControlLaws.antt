@@ -9,9 +9,11 @@ use lib.Dec.{eqb}
 use borrow.Author.Tests.{eq-eqb, ne-eqb, eqb-true, eqb-false}
 use Rattle.basics.specs.Choice.{choice}
 use Rattle.basics.proofs.Tests.{by-equal}
+use Rattle.basics.proofs.Bools.{beq-sym, differs-false, differs-more}
 use Rattle.words.specs.Word.{bit, flip, force, allOn, allOnes}
 use Rattle.words.proofs.Bits.{bit-le, bit-above}
 use Rattle.words.proofs.Lines.{bit-flip-same, bit-force-same, bit-force-other, force-other, force-lt, flip-flip, flip-differs}
+use Rattle.words.proofs.Inverse.{not-on}
 use Rattle.words.proofs.Masks.{all-on-iff, all-on-more, all-on-ones, all-on-but}
 use Rattle.circuit.specs.Controls.{isControl, lessControl, moreControl}
 use Rattle.circuit.specs.Runs.{fires, step}
@@ -90,25 +92,11 @@ choices-differ false false s t = ap not (eq-eqb s s refl)
 -- a gate changes the state where it fires
 pub step-changes : (g : Gate) (s : ℕ) → not (eqb s (step g s)) ≡ fires g s
 unfolding step
-step-changes g s = choices-differ false (fires g s) s (g .target) ∙ not-beq-false (fires g s)
-  where
-    not-beq-false : (b : Bool) → not (Bool·beq false b) ≡ b
-    not-beq-false true = refl
-    not-beq-false false = refl
+step-changes g s = choices-differ false (fires g s) s (g .target) ∙ differs-false (fires g s)
 
 -- where one fires only if a line is 1 too, they differ where that line is 0
-only-more : (b : ℕ) (a : Bool) → b ≤ 1 → not (Bool·beq (eqb b 1 && a) a) ≡ (eqb b 0 && a)
-only-more zero true h = refl
-only-more zero false h = refl
-only-more (suc zero) true h = refl
-only-more (suc zero) false h = refl
-only-more (suc (suc b)) a h = absurd (omega arith)
-
-beq-sym : (a b : Bool) → Bool·beq a b ≡ Bool·beq b a
-beq-sym true true = refl
-beq-sym true false = refl
-beq-sym false true = refl
-beq-sym false false = refl
+only-more : (s c : ℕ) (a : Bool) → not (Bool·beq (eqb (bit s c) 1 && a) a) ≡ (eqb (bit s c) 0 && a)
+only-more s c a = differs-more (eqb (bit s c) 1) a ∙ ap (λ b. b && a) (not-on s c)
 
 -- a gate without one of its controls does something else where the control is 0 and all others are 1
 pub less-control-differs : (g : Gate) (c s : ℕ) → isControl g c ≡ true
@@ -119,7 +107,7 @@ less-control-differs g c s e =
     choices-differ (fires less s) (fires g s) s (g .target)
     ∙ ap (λ b. not (Bool·beq (fires less s) b)) (fires-less g c s e)
     ∙ ap not (beq-sym (fires less s) (eqb (bit s c) 1 && fires less s))
-    ∙ only-more (bit s c) (fires less s) (bit-le s c)
+    ∙ only-more s c (fires less s)
 
 -- a gate with an extra control does something else where that line is 0 and all controls are 1
 pub more-control-differs : (g : Gate) (a s : ℕ) → isControl g a ≡ false
@@ -128,7 +116,7 @@ unfolding step moreControl
 more-control-differs g a s e =
     choices-differ (fires (moreControl a g) s) (fires g s) s (g .target)
     ∙ ap (λ b. not (Bool·beq b (fires g s))) (fires-more g a s e)
-    ∙ only-more (bit s a) (fires g s) (bit-le s a)
+    ∙ only-more s a (fires g s)
 
 -- ---- all lines 1, and all but one
 

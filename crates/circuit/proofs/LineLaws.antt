@@ -1,7 +1,7 @@
 -- The lines of a gate as words: its controls, and the lines that are neither a control nor the target.
 use Prim.Native.Nat.{ℕ, _<_}
 use mathlib.Core.Path.{_≡_, refl, sym, ap, _∙_}
-use mathlib.Core.Bool.{Bool, true, false, not, _&&_}
+use mathlib.Core.Bool.{not, and-true}
 use native.Mathlib.Omega.{arith}
 use lib.Bits.{bitXor}
 use lib.Dec.{eqb}
@@ -22,10 +22,6 @@ pub controls-word : (n : ℕ) (g : Gate) → GateOk n g → g .controls ≡ word
 unfolding isControl
 controls-word n g ok = word-is n (g .controls) (λ c. eqb (bit (g .controls) c) 1) (ok .controls-in) (λ j h. refl)
 
-and-true-right : (b : Bool) → b ≡ b && true
-and-true-right true = refl
-and-true-right false = refl
-
 -- line j of the word: the target is out, every other line is in where it is no control
 other-line : (n : ℕ) (g : Gate) → GateOk n g → (j : ℕ) → j < n → eqb (bit (flip (inverse n (g .controls)) (g .target)) j) 1 ≡ isOther g j
 unfolding isOther isControl
@@ -38,7 +34,7 @@ other-line n g ok j h = by-equal (g .target) j
     rw (zero, eq-eqb j (g .target) (sym e)) (by-test (not (eqb (bit (g .controls) j) 1)) (λ t. rw t) (λ t. rw t)))
     (λ d.
     rw (bit-flip-other (inverse n (g .controls)) (g .target) j d, ne-eqb j (g .target) (λ q. d (sym q)))
-    (on-inverse n (g .controls) j h ∙ sym (not-on (g .controls) j) ∙ and-true-right (not (eqb (bit (g .controls) j) 1))))
+    (on-inverse n (g .controls) j h ∙ sym (not-on (g .controls) j) ∙ sym (and-true (not (eqb (bit (g .controls) j) 1)))))
 
 others-word : (n : ℕ) (g : Gate) → GateOk n g → flip (inverse n (g .controls)) (g .target) ≡ wordOf n (isOther g)
 others-word n g ok =

@@ -5,6 +5,6 @@ use Rattle.refusals.specs.Tables.Told.{answered, refused}
 use Rattle.circuit.specs.declared.Ran.{Ran}
 use Rattle.circuit.specs.declared.Ran.the-variants.{State, Refused}
 
-abbrev pub told : Ran → Told
-told (State s) = answered (s ∷ [])
-told (Refused r) = refused (r .number) (r .place)
+abbrev pub toldRan : Ran → Told
+toldRan (State s) = answered (s ∷ [])
+toldRan (Refused r) = refused (r .number) (r .place)

@@ -5,3 +5,4 @@ pub mod Runs
 pub mod Rules
 pub mod Sound
 pub mod Answers
+pub mod Promises

@@ -19,7 +19,7 @@ pub record GateOk (n : ℕ) (g : Gate) : Type 0 where
 abbrev pub AllOk : ℕ → List Gate → Type 0
 AllOk n gs = All (GateOk n) gs
 
--- 1 to 32 lines, at most 1,024 gates, no word left over, and every gate on these lines
+-- at least one line, no more lines and gates than there may be, no word left over, and every gate on these lines
 pub record Sound (n : ℕ) (words : List ℕ) : Type 0 where
   pub some-lines : 1 ≤ n
   pub lines-fit : n ≤ mostLines

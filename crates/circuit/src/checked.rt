@@ -43,6 +43,17 @@ pub fn is_control(gate: Gate, line: u32) -> bool
     words::checked::value(gate.controls, line) == 1
 }
 
+// Whether a line is neither a control nor the target of a gate.
+pub fn is_other(gate: Gate, line: u32) -> bool
+    requires { ⌜ line < mostLines ⌝ }
+    ensures { λ r. ⌜ r ≡ isOther gate line ⌝ }
+{
+    if is_control(gate, line) {
+        return false;
+    }
+    line != gate.target
+}
+
 // The controls of a gate, as a word.
 pub fn control_lines(lines: u32, gate: Gate) -> u32
     requires { ⌜ GateOk lines gate ⌝ }

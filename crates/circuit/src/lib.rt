@@ -1,12 +1,7 @@
 // Circuits: gates in a flat list of words, and runs of them in both directions to a named level.
 ghost use mathlib.Core.Path.{_≡_};
-ghost use mathlib.Core.List.{[], _∷_};
-ghost use Rattle.refusals.specs.Tables.{firstOf};
-ghost use Rattle.refusals.specs.Tables.Told.{answered};
-ghost use Rattle.circuit.specs.Gates.{gatesOf};
-ghost use Rattle.circuit.specs.Runs.{forward, backward};
-ghost use Rattle.circuit.specs.Rules.{runRows};
-ghost use Rattle.circuit.specs.Answers.{told};
+ghost use Rattle.circuit.specs.Answers.{toldRan};
+ghost use Rattle.circuit.specs.Promises.{forwardTells, backwardTells};
 use refusals::Checked;
 use refusals::Refusal;
 
@@ -30,9 +25,7 @@ pub enum Ran {
 
 // From the input to a level.
 pub fn forward(lines: u32, gates: &[u32], level: u32, state: u32) -> Ran
-    ensures { λ r. ⌜ told r ≡ firstOf
-        (runRows lines (now (gates .entry)) level state)
-        (answered (forward (gatesOf (now (gates .entry))) level state ∷ [])) ⌝ }
+    ensures { λ r. ⌜ toldRan r ≡ forwardTells lines (now (gates .entry)) level state ⌝ }
 {
     match rules::check_run(lines, gates, level, state) {
         Checked::Wrong(refusal) => Ran::Refused(refusal),
@@ -47,9 +40,7 @@ pub fn forward(lines: u32, gates: &[u32], level: u32, state: u32) -> Ran
 
 // From a level to the input that leads there.
 pub fn backward(lines: u32, gates: &[u32], level: u32, state: u32) -> Ran
-    ensures { λ r. ⌜ told r ≡ firstOf
-        (runRows lines (now (gates .entry)) level state)
-        (answered (backward (gatesOf (now (gates .entry))) level state ∷ [])) ⌝ }
+    ensures { λ r. ⌜ toldRan r ≡ backwardTells lines (now (gates .entry)) level state ⌝ }
 {
     match rules::check_run(lines, gates, level, state) {
         Checked::Wrong(refusal) => Ran::Refused(refusal),

@@ -1,6 +1,7 @@
 // Gate numbers run from 1 and level numbers from 0. Only the functions here make them, read them and turn one into the other.
 ghost use mathlib.Core.Path.{_≡_};
 ghost use Prim.Native.Nat.{_+_, _<_};
+ghost use lib.Dec.{eqb};
 ghost use Rattle.circuit.specs.Limits.{mostGates};
 
 // The number of a gate, from 1.
@@ -66,6 +67,13 @@ pub fn gate_after(level: LevelNumber) -> GateNumber
     ensures { λ r. ⌜ r .0 ≡ level .0 + 1 ⌝ }
 {
     GateNumber(level.0 + 1)
+}
+
+// Whether two levels are one.
+pub fn same_level(a: LevelNumber, b: LevelNumber) -> bool
+    ensures { λ r. ⌜ r ≡ eqb (a .0) (b .0) ⌝ }
+{
+    a.0 == b.0
 }
 
 // The gate that a run back from a level takes when it has taken some: the last first.

@@ -7,6 +7,7 @@ use mathlib.Core.List.{List}
 use native.Mathlib.Omega.{arith}
 use lib.ListN.{length}
 use Rattle.basics.proofs.Tests.{by-equal}
+use Rattle.circuit.specs.Limits.{mostLines}
 use Rattle.circuit.specs.Gates.{gatesOf, gateAt}
 use Rattle.circuit.specs.Controls.{isControl, lessControl, moreControl}
 use Rattle.circuit.specs.Sound.{Sound}
@@ -62,11 +63,15 @@ module _ (n : ℕ) (words : List ℕ) (f : Fault) (ok : Sound n words) (is : isF
       let e = class-last n (gatesOf words) f is d1 d2 d3 in
       extra-control-ok n (gatesOf words) f (sym (class-four n (gatesOf words) f e) ∙ is) .2)))
 
+  -- the gate and the line that a fault of a gate names
+  pub names-both : f .class ≢ 1 → (1 ≤ f .place) × (f .place ≤ length (gatesOf words)) × (f .line < mostLines)
+  names-both d = let w = names-gate d in (w .0, w .1, omega (arith, names-line, ok .lines-fit))
+
   -- the gate that a fault names has a target in the word, also with a control less or more
-  pub less-target : f .class ≢ 1 → lessControl (f .line) (gateAt (gatesOf words) (f .place)) .target < 32
+  pub less-target : f .class ≢ 1 → lessControl (f .line) (gateAt (gatesOf words) (f .place)) .target < mostLines
   unfolding lessControl
   less-target d = let w = names-gate d in let g = gate-ok n words (f .place) ok (w .0) (w .1) in omega arith
 
-  pub more-target : f .class ≢ 1 → moreControl (f .line) (gateAt (gatesOf words) (f .place)) .target < 32
+  pub more-target : f .class ≢ 1 → moreControl (f .line) (gateAt (gatesOf words) (f .place)) .target < mostLines
   unfolding moreControl
   more-target d = let w = names-gate d in let g = gate-ok n words (f .place) ok (w .0) (w .1) in omega arith

@@ -21,7 +21,7 @@ use Rattle.circuit.proofs.ControlLaws.{control-in}
 use Rattle.faults.specs.Sites.{sites}
 use Rattle.faults.specs.Rules.{isStuckAt, isGate, isMissingGate, isMissingControl, isExtraControl, isFault}
 use Rattle.faults.specs.declared.Fault.{Fault}
-use Rattle.faults.proofs.RuleLaws.{class-one, class-two, class-three, class-four, class-last}
+use Rattle.faults.proofs.RuleLaws.{gate-there, gate-in, class-one, class-two, class-three, class-four, class-last}
 use Rattle.faults.specs.Classes.{faultOf, stuckFaults, missingGates, missingControls, extraControls, classFaults}
 use Rattle.faults.proofs.ClassParts.{all-stuck, stuck-all, all-missing-gates, missing-gates-all, all-missing-controls, missing-controls-all}
 use Rattle.faults.proofs.ClassParts.{all-extra-controls, extra-controls-all}
@@ -54,15 +54,6 @@ module _ (n : ℕ) (gs : List Gate) (k : ℕ) where
 
 -- ---- every fault of a list is one, of that class
 
--- gates are numbered from 1 to the last
-is-gate : (gs : List Gate) (i : ℕ) → 1 ≤ i → i ≤ length gs → isGate gs i ≡ true
-unfolding isGate
-is-gate gs i lo hi = and-true (le-leb 1 i lo) (le-leb i (length gs) hi)
-
-gate-in : (gs : List Gate) (i : ℕ) → isGate gs i ≡ true → (1 ≤ i) × (i ≤ length gs)
-unfolding isGate
-gate-in gs i t = let w = and-both (leb 1 i) (leb i (length gs)) t in (leb-true _ _ (w .0), leb-true _ _ (w .1))
-
 abbrev pub OfClass : ℕ → List Gate → ℕ → Fault → Type 0
 OfClass n gs k f = (f .class ≡ k) × (isFault n gs f ≡ true)
 
@@ -74,17 +65,16 @@ module _ (n : ℕ) (gs : List Gate) where
 
   missing-gate-ones : All (OfClass n gs 2) (missingGates gs)
   unfolding faultOf isFault isMissingGate
-  missing-gate-ones = all-missing-gates (OfClass n gs 2) gs (λ i lo hi. (refl, and-true (is-gate gs i lo hi) refl))
+  missing-gate-ones = all-missing-gates (OfClass n gs 2) gs (λ i lo hi. (refl, and-true (gate-there gs i lo hi) refl))
 
   missing-control-ones : All (OfClass n gs 3) (missingControls n gs)
   unfolding faultOf isFault isMissingControl
-  missing-control-ones = all-missing-controls (OfClass n gs 3) n gs (λ i c lo hi h e. (refl, and-true (is-gate gs i lo hi) (and-true e refl)))
+  missing-control-ones = all-missing-controls (OfClass n gs 3) n gs (λ i c lo hi h e. (refl, and-true (gate-there gs i lo hi) (and-true e refl)))
 
   extra-control-ones : All (OfClass n gs 4) (extraControls n gs)
-  unfolding faultOf isFault isExtraControl isOther
+  unfolding faultOf isFault isExtraControl
   extra-control-ones = all-extra-controls (OfClass n gs 4) n gs (λ i a lo hi h e.
-      let w = and-both (not (isControl (gateAt gs i) a)) (not (eqb a (gateAt gs i .target))) e in
-      (refl, and-true (is-gate gs i lo hi) (and-true (lt-ltb a n h) (and-true (w .0) (and-true (w .1) refl)))))
+      (refl, and-true (gate-there gs i lo hi) (and-true (lt-ltb a n h) (and-true e refl))))
 
   -- the list `zs` is the class's, so all of the class's list are of the class
   of-class : (k c : ℕ) (zs : List Fault) → k ≡ c → classFaults n gs k ≡ zs → All (OfClass n gs c) zs → All (OfClass n gs k) (classFaults n gs k)
@@ -140,17 +130,16 @@ module _ (n : ℕ) (gs : List Gate) (f : Fault) where
       (p .1) line (z .0))
 
   in-extra-controls : f .class ≡ 4 → isExtraControl n gs f ≡ true → List·Memᴰ f (extraControls n gs)
-  unfolding isExtraControl isOther
+  unfolding isExtraControl
   in-extra-controls e t =
       let g : Gate = gateAt gs (f .place) in
       let w = and-both (isGate gs (f .place)) _ t in
       let p = gate-in gs (f .place) (w .0) in
       let l = and-both (ltb (f .line) n) _ (w .1) in
-      let c = and-both (not (isControl g (f .line))) _ (l .1) in
-      let z = and-both (not (eqb (f .line) (g .target))) (eqb (f .value) 0) (c .1) in
+      let z = and-both (isOther g (f .line)) (eqb (f .value) 0) (l .1) in
       Memᴰ·cast (same-fault f e refl (eqb-true _ _ (z .1)))
       (extra-controls-all (λ h. List·Memᴰ h (extraControls n gs)) n gs (all-members (extraControls n gs)) (f .place) (f .line) (p .0) (p .1)
-      (ltb-true _ _ (l .0)) (and-true (c .0) (z .0)))
+      (ltb-true _ _ (l .0)) (z .0))
 
   pub in-class-list : AllOk n gs → isFault n gs f ≡ true → List·Memᴰ f (classFaults n gs (f .class))
   in-class-list ok is = by-equal (f .class) 1

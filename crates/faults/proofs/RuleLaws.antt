@@ -8,7 +8,7 @@ use native.Mathlib.Omega.{arith}
 use lib.ListN.{length}
 use lib.Dec.{eqb, ltb, leb}
 use borrow.Author.Tests.{ltb-true, leb-true, eqb-true, eq-eqb, ne-eqb, lt-ltb, le-ltb, le-leb, lt-leb, not-true, not-false}
-use Rattle.basics.proofs.Tests.{by-test, not-not, and-both, choice-true, choice-false}
+use Rattle.basics.proofs.Tests.{by-test, not-not, and-both, and-true, choice-true, choice-false}
 use Rattle.basics.proofs.All.{all-map}
 use Rattle.words.specs.Word.{bit}
 use Rattle.refusals.specs.Tables.{firstOf}
@@ -19,8 +19,9 @@ use Rattle.refusals.specs.Places.{inWord}
 use Rattle.refusals.proofs.Tables.{fine-row}
 use Rattle.refusals.proofs.Places.{none-bad, none-left}
 use Rattle.circuit.specs.Gates.{gatesOf, gateAt}
-use Rattle.circuit.specs.Controls.{isControl}
+use Rattle.circuit.specs.Controls.{isControl, isOther}
 use Rattle.circuit.specs.declared.Gate.{Gate}
+use Rattle.faults.specs.Limits.{mostEntries}
 use Rattle.faults.specs.Sites.{sites}
 use Rattle.faults.specs.Rules.{isStuckAt, isGate, isMissingGate, isMissingControl, isExtraControl, isFault, faultRows}
 use Rattle.faults.specs.Records.{faultsOf, firstBadRecord}
@@ -29,6 +30,15 @@ use Rattle.faults.specs.Entries.{StuckOk, Entries}
 use Rattle.faults.specs.declared.Fault.{Fault}
 use Rattle.faults.proofs.SiteLaws.{site-line}
 use Rattle.faults.proofs.RecordLaws.{records-count}
+
+-- gates are numbered from 1 to the last
+pub gate-there : (gs : List Gate) (i : ℕ) → 1 ≤ i → i ≤ length gs → isGate gs i ≡ true
+unfolding isGate
+gate-there gs i lo hi = and-true (le-leb 1 i lo) (le-leb i (length gs) hi)
+
+pub gate-in : (gs : List Gate) (i : ℕ) → isGate gs i ≡ true → (1 ≤ i) × (i ≤ length gs)
+unfolding isGate
+gate-in gs i t = let w = and-both (leb 1 i) (leb i (length gs)) t in (leb-true _ _ (w .0), leb-true _ _ (w .1))
 
 module _ (n : ℕ) (gs : List Gate) (f : Fault) where
   -- ---- the class decides which fields are asked
@@ -64,20 +74,6 @@ module _ (n : ℕ) (gs : List Gate) (f : Fault) where
   class-last t a b c = by-test (eqb (f .class) 4) (eqb-true (f .class) 4)
       (λ e. absurd (true≢false (sym t ∙ class-none a b c (λ q. true≢false (sym (eq-eqb (f .class) 4 q) ∙ e)))))
 
-  -- ---- gates are numbered from 1 to the last
-
-  pub gate-zero : f .place ≡ 0 → isGate gs (f .place) ≡ false
-  unfolding isGate
-  gate-zero e = rw (lt-leb 1 (f .place) (omega arith))
-
-  pub gate-far : length gs < f .place → isGate gs (f .place) ≡ false
-  unfolding isGate
-  gate-far h = rw (le-leb 1 (f .place) (omega arith), lt-leb (f .place) (length gs) h)
-
-  pub gate-there : f .place ≢ 0 → f .place ≤ length gs → isGate gs (f .place) ≡ true
-  unfolding isGate
-  gate-there d h = rw (le-leb 1 (f .place) (omega arith), le-leb (f .place) (length gs) h)
-
   -- ---- what the fields of a fault are
 
   pub stuck-at-ok : f .class ≡ 1 → isStuckAt n gs f ≡ true → StuckOk n (length gs) f
@@ -87,15 +83,11 @@ module _ (n : ℕ) (gs : List Gate) (f : Fault) where
       let v = and-both (eqb (bit (sites n gs (f .place)) (f .line)) 1) (leb (f .value) 1) (w .1) in
       record { class-is = e; place-in = leb-true _ _ (w .0); line-in = site-line n gs (f .place) (f .line) (v .0); value-in = leb-true _ _ (v .1) }
 
-  gate-in : isGate gs (f .place) ≡ true → (1 ≤ f .place) × (f .place ≤ length gs)
-  unfolding isGate
-  gate-in t = let w = and-both (leb 1 (f .place)) (leb (f .place) (length gs)) t in (leb-true _ _ (w .0), leb-true _ _ (w .1))
-
   pub missing-gate-ok : isMissingGate gs f ≡ true → (1 ≤ f .place) × (f .place ≤ length gs) × (f .line ≡ 0)
   unfolding isMissingGate
   missing-gate-ok t =
       let w = and-both (isGate gs (f .place)) _ t in
-      let p = gate-in (w .0) in
+      let p = gate-in gs (f .place) (w .0) in
       (p .0, p .1, eqb-true (f .line) 0 (and-both (eqb (f .line) 0) (eqb (f .value) 0) (w .1) .0))
 
   pub missing-control-ok : isMissingControl gs f ≡ true
@@ -103,17 +95,18 @@ module _ (n : ℕ) (gs : List Gate) (f : Fault) where
   unfolding isMissingControl
   missing-control-ok t =
       let w = and-both (isGate gs (f .place)) _ t in
-      let p = gate-in (w .0) in
+      let p = gate-in gs (f .place) (w .0) in
       (p .0, p .1, and-both (isControl (gateAt gs (f .place)) (f .line)) (eqb (f .value) 0) (w .1) .0)
 
   pub extra-control-ok : isExtraControl n gs f ≡ true
       → (1 ≤ f .place) × (f .place ≤ length gs) × (f .line < n) × (isControl (gateAt gs (f .place)) (f .line) ≡ false)
-  unfolding isExtraControl
+  unfolding isExtraControl isOther
   extra-control-ok t =
       let w = and-both (isGate gs (f .place)) _ t in
-      let p = gate-in (w .0) in
+      let p = gate-in gs (f .place) (w .0) in
       let v = and-both (ltb (f .line) n) _ (w .1) in
-      (p .0, p .1, ltb-true _ _ (v .0), not-true _ (and-both (not (isControl (gateAt gs (f .place)) (f .line))) _ (v .1) .0))
+      let o = and-both (isOther (gateAt gs (f .place)) (f .line)) (eqb (f .value) 0) (v .1) in
+      (p .0, p .1, ltb-true _ _ (v .0), not-true _ (and-both (not (isControl (gateAt gs (f .place)) (f .line))) _ (o .0) .0))
 
   -- the value of a gate fault is 0
   pub missing-gate-value : isMissingGate gs f ≡ true → f .value ≡ 0
@@ -129,8 +122,7 @@ module _ (n : ℕ) (gs : List Gate) (f : Fault) where
   unfolding isExtraControl
   extra-control-value t =
       let w = and-both (ltb (f .line) n) _ (and-both (isGate gs (f .place)) _ t .1) in
-      let v = and-both (not (isControl (gateAt gs (f .place)) (f .line))) _ (w .1) in
-      eqb-true (f .value) 0 (and-both (not (eqb (f .line) (gateAt gs (f .place) .target))) _ (v .1) .1)
+      eqb-true (f .value) 0 (and-both (isOther (gateAt gs (f .place)) (f .line)) _ (w .1) .1)
 
 -- ---- rule 9 by the test of the class
 
@@ -185,13 +177,13 @@ module _ (n : ℕ) (words list : List ℕ) where
     unfolding entriesRows
     entries-none e = rw (← is, eq-eqb bad 0 none, eq-eqb (length (faultsOf list)) 0 (records-count list ∙ e))
 
-    pub entries-many : length list / 4 ≢ 0 → 256 < length list / 4 → refused 13 0 ≡ firstOf (entriesRows n words list) fine
+    pub entries-many : length list / 4 ≢ 0 → mostEntries < length list / 4 → refused 13 0 ≡ firstOf (entriesRows n words list) fine
     unfolding entriesRows
     entries-many d h =
         let number = records-count list in
-        rw (← is, eq-eqb bad 0 none, ne-eqb (length (faultsOf list)) 0 (λ e. d (sym number ∙ e)), lt-ltb 256 (length (faultsOf list)) (omega arith))
+        rw (← is, eq-eqb bad 0 none, ne-eqb (length (faultsOf list)) 0 (λ e. d (sym number ∙ e)), lt-ltb mostEntries (length (faultsOf list)) (omega arith))
 
-    pub entries-twice : (twice : Bool) → twice ≡ siteTwice (faultsOf list) → length list / 4 ≢ 0 → length list / 4 ≤ 256
+    pub entries-twice : (twice : Bool) → twice ≡ siteTwice (faultsOf list) → length list / 4 ≢ 0 → length list / 4 ≤ mostEntries
         → firstOf (refuse 13 at 0 when not (not twice) ∷ []) fine ≡ firstOf (entriesRows n words list) fine
     unfolding entriesRows
     entries-twice twice e d h =
@@ -200,7 +192,7 @@ module _ (n : ℕ) (words list : List ℕ) where
           ← is,
           eq-eqb bad 0 none,
           ne-eqb (length (faultsOf list)) 0 (λ q. d (sym number ∙ q)),
-          le-ltb 256 (length (faultsOf list)) (omega arith),
+          le-ltb mostEntries (length (faultsOf list)) (omega arith),
           ← e,
           not-not twice,
         )

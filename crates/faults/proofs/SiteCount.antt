@@ -12,6 +12,7 @@ use Rattle.words.specs.Word.{bit, linesOn}
 use Rattle.words.proofs.LineLists.{length-lines-ones}
 use Rattle.words.proofs.Masks.{bit-all-ones}
 use Rattle.words.proofs.SplitLaws.{length-wide}
+use Rattle.circuit.specs.Limits.{mostLines, levels}
 use Rattle.circuit.specs.Gates.{gatesOf}
 use Rattle.circuit.specs.Sound.{Sound}
 use Rattle.circuit.specs.declared.Gate.{Gate}
@@ -67,7 +68,7 @@ pub sites-all : (n : ℕ) (gs : List Gate) → siteCount n gs ≡ sitesFrom n gs
 unfolding siteCount
 sites-all n gs = let all : suc (length gs) ≡ suc (length gs) - 0 = omega arith in ap (sumFrom (λ k. length (linesOn n (sites n gs k))) 0) all
 
-pub sites-more : (n : ℕ) (gs : List Gate) (i w : ℕ) → n ≤ 32 → i ≤ length gs → w ≡ sites n gs i
+pub sites-more : (n : ℕ) (gs : List Gate) (i w : ℕ) → n ≤ mostLines → i ≤ length gs → w ≡ sites n gs i
     → sitesFrom n gs i ≡ length (linesOn 32 w) + sitesFrom n gs (i + 1)
 sites-more n gs i w wide h e =
     sum-more (λ k. length (linesOn n (sites n gs k))) i (suc (length gs)) (omega arith)
@@ -79,7 +80,7 @@ sites-none n gs i h = sum-end (λ k. length (linesOn n (sites n gs k))) i (suc (
 -- they are few
 pub site-count-le : (n : ℕ) (words : List ℕ) → Sound n words → siteCount n (gatesOf words) ≤ 32800
 site-count-le n words ok =
-    let most : n * suc (length (gatesOf words)) ≤ 32 * 1025 = mul-le-mul {m₂ = 1025} (ok .lines-fit) (omega arith) in
+    let most : n * suc (length (gatesOf words)) ≤ mostLines * levels = mul-le-mul {m₂ = levels} (ok .lines-fit) (omega arith) in
     omega (arith, site-count n (gatesOf words))
 
 pub site-count-some : (n : ℕ) (words : List ℕ) → Sound n words → 1 ≤ siteCount n (gatesOf words)

@@ -1,3 +1,4 @@
+pub mod Limits
 pub mod Sites
 pub mod Rules
 pub mod Records

@@ -10,6 +10,7 @@ use Rattle.refusals.specs.Tables.Row.{refuse_at_when_}
 use Rattle.refusals.specs.Places.{inWord}
 use Rattle.circuit.specs.Gates.{gatesOf}
 use Rattle.circuit.specs.declared.Gate.{Gate}
+use Rattle.faults.specs.Limits.{mostEntries}
 use Rattle.faults.specs.Rules.{isStuckAt}
 use Rattle.faults.specs.Records.{faultsOf, firstBadRecord}
 use Rattle.faults.specs.declared.Fault.{Fault}
@@ -29,4 +30,4 @@ siteTwice (f ∷ fs) = some (sameSite f) fs || siteTwice fs
 unfoldable pub entriesRows : ℕ → List ℕ → List ℕ → List Row
 entriesRows n words list =
     refuse 9 at inWord (firstBadRecord (badEntry n (gatesOf words)) list) when not (eqb (firstBadRecord (badEntry n (gatesOf words)) list) 0) ∷
-    refuse 13 at 0 when (eqb (length (faultsOf list)) 0 || (ltb 256 (length (faultsOf list)) || siteTwice (faultsOf list))) ∷ []
+    refuse 13 at 0 when (eqb (length (faultsOf list)) 0 || (ltb mostEntries (length (faultsOf list)) || siteTwice (faultsOf list))) ∷ []

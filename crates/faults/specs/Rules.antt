@@ -9,7 +9,7 @@ use Rattle.words.specs.Word.{bit}
 use Rattle.refusals.specs.Tables.{Row}
 use Rattle.refusals.specs.Tables.Row.{refuse_at_when_}
 use Rattle.circuit.specs.Gates.{gatesOf, gateAt}
-use Rattle.circuit.specs.Controls.{isControl}
+use Rattle.circuit.specs.Controls.{isControl, isOther}
 use Rattle.circuit.specs.declared.Gate.{Gate}
 use Rattle.faults.specs.Sites.{sites}
 use Rattle.faults.specs.declared.Fault.{Fault}
@@ -36,8 +36,7 @@ isMissingControl gs f = isGate gs (f .place) && (isControl (gateAt gs (f .place)
 unfoldable pub isExtraControl : ℕ → List Gate → Fault → Bool
 isExtraControl n gs f =
     isGate gs (f .place)
-    && (ltb (f .line) n
-    && (not (isControl (gateAt gs (f .place)) (f .line)) && (not (eqb (f .line) (gateAt gs (f .place) .target)) && eqb (f .value) 0)))
+    && (ltb (f .line) n && (isOther (gateAt gs (f .place)) (f .line) && eqb (f .value) 0))
 
 -- there is no other class
 unfoldable pub isFault : ℕ → List Gate → Fault → Bool

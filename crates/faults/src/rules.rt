@@ -8,16 +8,19 @@ ghost use Rattle.refusals.specs.Checks.{fine, found};
 ghost use Rattle.circuit.specs.Gates.{gatesOf};
 ghost use Rattle.circuit.specs.Sound.{Sound};
 ghost use Rattle.faults.specs.Sites.{sites};
-ghost use Rattle.faults.specs.Rules.{isStuckAt, isMissingGate, isMissingControl, isExtraControl, faultRows};
+ghost use Rattle.faults.specs.Rules.{isStuckAt, isGate, isMissingGate, isMissingControl, isExtraControl, faultRows};
 ghost use Rattle.faults.specs.Records.{noFault, faultsOf, firstBadRecord};
 ghost use Rattle.faults.specs.Multiple.{badEntry, sameSite, siteTwice, entriesRows};
 use crate::Fault;
+use crate::limits::MOST_ENTRIES;
 use crate::places;
 use crate::records;
 use crate::sites::sites_at;
 use circuit::checked::gate_at;
 use circuit::checked::is_control;
+use circuit::checked::is_other;
 use circuit::numbers;
+use circuit::numbers::GateNumber;
 use refusals::Checked;
 use refusals::Refusal;
 use words;
@@ -41,16 +44,23 @@ pub fn is_stuck_at(lines: u32, gates: &[u32], fault: Fault) -> bool
     fault.value <= 1
 }
 
+// Whether a circuit has a gate of this number: they run from 1 to the last.
+fn is_gate(gates: &[u32], gate: GateNumber) -> bool
+    ensures { λ r. ⌜ r ≡ isGate (gatesOf (now (gates .entry))) (gate .0) ⌝ }
+{
+    let number = numbers::gates_through(gate);
+    if number == 0 {
+        return false;
+    }
+    number <= gates.len() / 3
+}
+
 // Whether a record names a gate, and nothing else.
 pub fn is_missing_gate(lines: u32, gates: &[u32], fault: Fault) -> bool
     requires { ⌜ Sound lines (now gates) ⌝ }
     ensures { λ r. ⌜ r ≡ isMissingGate (gatesOf (now (gates .entry))) fault ⌝ }
 {
-    let place = fault.place;
-    if place == 0 {
-        return false;
-    }
-    if gates.len() / 3 < place as usize {
+    if !is_gate(gates, places::gate_of(fault)) {
         return false;
     }
     if fault.line != 0 {
@@ -64,19 +74,15 @@ pub fn is_missing_control(lines: u32, gates: &[u32], fault: Fault) -> bool
     requires { ⌜ Sound lines (now gates) ⌝ }
     ensures { λ r. ⌜ r ≡ isMissingControl (gatesOf (now (gates .entry))) fault ⌝ }
 {
-    let place = fault.place;
+    let gate = places::gate_of(fault);
     let line = fault.line;
-    if place == 0 {
-        return false;
-    }
-    if gates.len() / 3 < place as usize {
+    if !is_gate(gates, gate) {
         return false;
     }
     if lines <= line {
         return false;
     }
-    let gate = gate_at(gates, numbers::gate(place as usize));
-    if !is_control(gate, line) {
+    if !is_control(gate_at(gates, gate), line) {
         return false;
     }
     fault.value == 0
@@ -87,22 +93,15 @@ pub fn is_extra_control(lines: u32, gates: &[u32], fault: Fault) -> bool
     requires { ⌜ Sound lines (now gates) ⌝ }
     ensures { λ r. ⌜ r ≡ isExtraControl lines (gatesOf (now (gates .entry))) fault ⌝ }
 {
-    let place = fault.place;
+    let gate = places::gate_of(fault);
     let line = fault.line;
-    if place == 0 {
-        return false;
-    }
-    if gates.len() / 3 < place as usize {
+    if !is_gate(gates, gate) {
         return false;
     }
     if lines <= line {
         return false;
     }
-    let gate = gate_at(gates, numbers::gate(place as usize));
-    if is_control(gate, line) {
-        return false;
-    }
-    if line == gate.target {
+    if !is_other(gate_at(gates, gate), line) {
         return false;
     }
     fault.value == 0
@@ -214,7 +213,7 @@ pub fn check_entries(lines: u32, gates: &[u32], entries: &[u32]) -> Checked
             place: 0,
         });
     }
-    if 256 < number {
+    if MOST_ENTRIES < number {
         return Checked::Wrong(Refusal {
             number: 13,
             place: 0,

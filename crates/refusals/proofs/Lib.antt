@@ -1,2 +1,3 @@
+pub mod Clashes
 pub mod Tables
 pub mod Places

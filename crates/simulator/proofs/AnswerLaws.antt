@@ -2,26 +2,35 @@
 use Prim.Native.Nat.{ℕ}
 use mathlib.Core.Path.{_≡_, refl, ap}
 use native.Mathlib.Omega.{arith}
+use Rattle.refusals.proofs.Clashes.{answered-refused, refused-answered}
 use Rattle.refusals.proofs.Tables.{told-refusal}
-use Rattle.simulator.specs.Answers.{toldCaught, toldMade}
+use Rattle.simulator.specs.Answers.{toldOutput, toldCaught, toldMade}
+use Rattle.simulator.specs.declared.Output.{Output}
+use Rattle.simulator.specs.declared.Output.the-variants as output
 use Rattle.simulator.specs.declared.Caught.{Caught}
 use Rattle.simulator.specs.declared.Caught.the-variants as caught
 use Rattle.simulator.specs.declared.Made.{Made}
 use Rattle.simulator.specs.declared.Made.the-variants as made
 
+pub told-output-one : (r s : Output) → toldOutput r ≡ toldOutput s → r ≡ s
+told-output-one (output.Word a) (output.Word b) e = cc
+told-output-one (output.Word a) (output.Refused q) e = answered-refused e
+told-output-one (output.Refused p) (output.Word b) e = refused-answered e
+told-output-one (output.Refused p) (output.Refused q) e = ap output.Refused (told-refusal p q e)
+
 pub told-caught-one : (r s : Caught) → toldCaught r ≡ toldCaught s → r ≡ s
 told-caught-one caught.Yes caught.Yes e = refl
 told-caught-one caught.Yes caught.No e = let z : _≡_ {A = ℕ} 0 1 = cc in absurd (omega arith)
-told-caught-one caught.Yes (caught.Refused q) e = let z : _≡_ {A = ℕ} 0 1 = cc in absurd (omega arith)
+told-caught-one caught.Yes (caught.Refused q) e = answered-refused e
 told-caught-one caught.No caught.Yes e = let z : _≡_ {A = ℕ} 0 1 = cc in absurd (omega arith)
 told-caught-one caught.No caught.No e = refl
-told-caught-one caught.No (caught.Refused q) e = let z : _≡_ {A = ℕ} 0 1 = cc in absurd (omega arith)
-told-caught-one (caught.Refused p) caught.Yes e = let z : _≡_ {A = ℕ} 0 1 = cc in absurd (omega arith)
-told-caught-one (caught.Refused p) caught.No e = let z : _≡_ {A = ℕ} 0 1 = cc in absurd (omega arith)
+told-caught-one caught.No (caught.Refused q) e = answered-refused e
+told-caught-one (caught.Refused p) caught.Yes e = refused-answered e
+told-caught-one (caught.Refused p) caught.No e = refused-answered e
 told-caught-one (caught.Refused p) (caught.Refused q) e = ap caught.Refused (told-refusal p q e)
 
 pub told-made-one : (r s : Made) → toldMade r ≡ toldMade s → r ≡ s
 told-made-one (made.Vector a) (made.Vector b) e = cc
-told-made-one (made.Vector a) (made.Refused q) e = let z : _≡_ {A = ℕ} 0 1 = cc in absurd (omega arith)
-told-made-one (made.Refused p) (made.Vector b) e = let z : _≡_ {A = ℕ} 0 1 = cc in absurd (omega arith)
+told-made-one (made.Vector a) (made.Refused q) e = answered-refused e
+told-made-one (made.Refused p) (made.Vector b) e = refused-answered e
 told-made-one (made.Refused p) (made.Refused q) e = ap made.Refused (told-refusal p q e)

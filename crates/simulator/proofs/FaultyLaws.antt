@@ -143,7 +143,18 @@ pub faulty-extra-control : (gs : List Gate) (f : Fault) (x : ℕ) → f .class �
 unfolding faulty
 faulty-extra-control gs f x e =
     choice-false (ne-eqb (f .class) 1 (omega arith)) _ _ ∙ choice-false (ne-eqb (f .class) 2 (omega arith)) _ _
-    ∙ choice-false (ne-eqb (f .class) 3 (omega arith)) _ _
+    ∙ choice-false (ne-eqb (f .class) 3 (omega arith)) _ _ ∙ choice-true (eq-eqb (f .class) 4 e) _ _
+
+-- and of a class that there is not
+pub faulty-none : (gs : List Gate) (f : Fault) (x : ℕ) → f .class ≢ 1 → f .class ≢ 2 → f .class ≢ 3 → f .class ≢ 4 → faulty gs f x ≡ run gs x
+unfolding faulty
+faulty-none gs f x a b c d =
+    choice-false (ne-eqb (f .class) 1 a) _ _ ∙ choice-false (ne-eqb (f .class) 2 b) _ _
+    ∙ choice-false (ne-eqb (f .class) 3 c) _ _ ∙ choice-false (ne-eqb (f .class) 4 d) _ _
+
+pub none-caught : (gs : List Gate) (f : Fault) (x : ℕ) → f .class ≢ 1 → f .class ≢ 2 → f .class ≢ 3 → f .class ≢ 4 → caught gs f x ≡ false
+unfolding caught
+none-caught gs f x a b c d = ap not (eq-eqb (faulty gs f x) (run gs x) (faulty-none gs f x a b c d))
 
 module _ (n : ℕ) (gs : List Gate) (ok : AllOk n gs) (f : Fault) (lo : 1 ≤ f .place) (hi : f .place ≤ length gs) (x : ℕ) where
   -- a fault of one gate is caught where it makes another state than the gate
@@ -151,27 +162,31 @@ module _ (n : ℕ) (gs : List Gate) (ok : AllOk n gs) (f : Fault) (lo : 1 ≤ f 
       → caught gs f x ≡ not (eqb t (step (gateAt gs (f .place)) (forward gs (f .place - 1) x)))
   caught-by-step t e = caught-at n gs ok f x (f .place) t e ∙ ap (λ s. not (eqb t s)) (level-step gs (f .place) x lo hi)
 
+  -- a missing gate is caught where the gate changes the state, and another gate in its place where the two make different states
+  pub without-caught : f .class ≡ 2
+      → caught gs f x ≡ not (eqb (forward gs (f .place - 1) x) (step (gateAt gs (f .place)) (forward gs (f .place - 1) x)))
+  without-caught e = caught-by-step (forward gs (f .place - 1) x) (faulty-missing-gate gs f x e ∙ run-without gs (f .place) x)
+
+  pub changed-caught : (h : Gate → Gate) → faulty gs f x ≡ run (changed h (f .place) gs) x
+      → caught gs f x
+      ≡ not (eqb (step (h (gateAt gs (f .place))) (forward gs (f .place - 1) x)) (step (gateAt gs (f .place)) (forward gs (f .place - 1) x)))
+  changed-caught h e = caught-by-step (step (h (gateAt gs (f .place))) (forward gs (f .place - 1) x)) (e ∙ run-changed h gs (f .place) x lo hi)
+
   -- a missing gate is caught where the gate should fire
   pub missing-gate-caught : f .class ≡ 2 → caught gs f x ≡ fires (gateAt gs (f .place)) (forward gs (f .place - 1) x)
-  missing-gate-caught e =
-      let s : ℕ = forward gs (f .place - 1) x in
-      caught-by-step s (faulty-missing-gate gs f x e ∙ run-without gs (f .place) x) ∙ step-changes (gateAt gs (f .place)) s
+  missing-gate-caught e = without-caught e ∙ step-changes (gateAt gs (f .place)) (forward gs (f .place - 1) x)
 
   -- a missing control is caught where it is 0 and all other controls are 1
   pub missing-control-caught : f .class ≡ 3 → isControl (gateAt gs (f .place)) (f .line) ≡ true
       → caught gs f x ≡
       (eqb (bit (forward gs (f .place - 1) x) (f .line)) 0 && fires (lessControl (f .line) (gateAt gs (f .place))) (forward gs (f .place - 1) x))
   missing-control-caught e c =
-      let g : Gate = gateAt gs (f .place) in
-      let s : ℕ = forward gs (f .place - 1) x in
-      caught-by-step (step (lessControl (f .line) g) s) (faulty-missing-control gs f x e ∙ run-changed (lessControl (f .line)) gs (f .place) x lo hi)
-      ∙ less-control-differs g (f .line) s c
+      changed-caught (lessControl (f .line)) (faulty-missing-control gs f x e)
+      ∙ less-control-differs (gateAt gs (f .place)) (f .line) (forward gs (f .place - 1) x) c
 
   -- an extra control is caught where it is 0 and all controls are 1
   pub extra-control-caught : f .class ≡ 4 → isControl (gateAt gs (f .place)) (f .line) ≡ false
       → caught gs f x ≡ (eqb (bit (forward gs (f .place - 1) x) (f .line)) 0 && fires (gateAt gs (f .place)) (forward gs (f .place - 1) x))
   extra-control-caught e c =
-      let g : Gate = gateAt gs (f .place) in
-      let s : ℕ = forward gs (f .place - 1) x in
-      caught-by-step (step (moreControl (f .line) g) s) (faulty-extra-control gs f x e ∙ run-changed (moreControl (f .line)) gs (f .place) x lo hi)
-      ∙ more-control-differs g (f .line) s c
+      changed-caught (moreControl (f .line)) (faulty-extra-control gs f x e)
+      ∙ more-control-differs (gateAt gs (f .place)) (f .line) (forward gs (f .place - 1) x) c

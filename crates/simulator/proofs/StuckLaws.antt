@@ -10,6 +10,7 @@ use lib.Dec.{eqb}
 use Rattle.basics.specs.Choice.{choice}
 use Rattle.basics.proofs.All.{all-at}
 use Rattle.words.specs.Word.{force}
+use Rattle.circuit.specs.Limits.{mostLines}
 use Rattle.circuit.specs.Gates.{gatesOf, noGate}
 use Rattle.circuit.specs.Runs.{step, forward}
 use Rattle.circuit.specs.Sound.{Sound}
@@ -43,7 +44,7 @@ stuck-end fs gs i s h = rw (drop-of-length-le gs h)
 
 -- the line of an entry is a line of the word
 pub entry-line : (n : ℕ) (words list : List ℕ) (i : ℕ) → Sound n words → Entries n (gatesOf words) list → i < length (faultsOf list)
-    → getD (faultsOf list) i noFault .line < 32
+    → getD (faultsOf list) i noFault .line < mostLines
 entry-line n words list i ok entries h =
     let f = all-at (StuckOk n (length (gatesOf words))) (faultsOf list) i noFault h (entries .entries-ok) in
     omega arith

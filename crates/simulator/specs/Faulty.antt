@@ -39,13 +39,14 @@ changed h (suc (suc i)) (g ∷ gs) = g ∷ changed h (suc i) gs
 
 -- ---- all classes
 
--- the output of the circuit with the fault in it
+-- the output of the circuit with the fault in it; a class that there is not changes nothing
 unfoldable pub faulty : List Gate → Fault → ℕ → ℕ
 faulty gs f x =
     choice (eqb (f .class) 1) (stuckRun (f ∷ []) 0 gs x)
     (choice (eqb (f .class) 2) (run (without (f .place) gs) x)
     (choice (eqb (f .class) 3) (run (changed (lessControl (f .line)) (f .place) gs) x)
-    (run (changed (moreControl (f .line)) (f .place) gs) x)))
+    (choice (eqb (f .class) 4) (run (changed (moreControl (f .line)) (f .place) gs) x)
+    (run gs x))))
 
 -- caught: the final output differs from the good one
 unfoldable pub caught : List Gate → Fault → ℕ → Bool

@@ -2,3 +2,4 @@ pub mod Faulty
 pub mod Rules
 pub mod Tests
 pub mod Answers
+pub mod Promises

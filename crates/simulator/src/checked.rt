@@ -1,13 +1,15 @@
 // Faulty runs and catching, of faults that a sound circuit is known to have.
 ghost use mathlib.Core.Path.{_≡_};
-ghost use mathlib.Core.Bool.{true, not, _&&_};
+ghost use mathlib.Core.Bool.{true, not};
 ghost use Prim.Native.Nat.{_-_, _<_, _≤_};
 ghost use lib.ListN.{length, drop};
 ghost use lib.Dec.{eqb};
 ghost use Rattle.basics.specs.Choice.{choice};
 ghost use Rattle.words.specs.Word.{bit, force};
+ghost use Rattle.circuit.specs.Limits.{mostLines};
 ghost use Rattle.circuit.specs.Gates.{gatesOf, gateAt};
-ghost use Rattle.circuit.specs.Runs.{fires, step, run, forward};
+ghost use Rattle.circuit.specs.Controls.{lessControl, moreControl};
+ghost use Rattle.circuit.specs.Runs.{step, run, forward};
 ghost use Rattle.circuit.specs.Sound.{Sound};
 ghost use Rattle.simulator.specs.Faulty.{forceAt, stuckRun, faulty, caught, caughtTogether};
 ghost use Rattle.faults.specs.Rules.{isFault};
@@ -15,7 +17,6 @@ ghost use Rattle.faults.specs.Records.{faultsOf};
 ghost use Rattle.simulator.specs.Tests.{lineAtZero, testState, testFor};
 ghost use Rattle.faults.specs.Entries.{Entries};
 use circuit::Gate;
-use circuit::checked::fires;
 use circuit::checked::gate_at;
 use circuit::checked::less_control;
 use circuit::checked::more_control;
@@ -24,9 +25,9 @@ use circuit::checked::run_forward;
 use circuit::checked::run_onward;
 use circuit::checked::step;
 use circuit::numbers;
-use circuit::numbers::GateNumber;
 use circuit::numbers::LevelNumber;
 use faults::Fault;
+use faults::places;
 use faults::records;
 use words;
 
@@ -42,11 +43,10 @@ fn run_rest(lines: u32, gates: &[u32], level: LevelNumber, state: u32) -> u32
 // The output with a line stuck at a level.
 fn run_stuck_at(lines: u32, gates: &[u32], vector: u32, fault: Fault) -> u32
     requires { ⌜ Sound lines (now gates) ⌝ }
-    requires { ⌜ (fault .place ≤ length (gatesOf (now gates))) × (fault .line < 32) ⌝ }
+    requires { ⌜ (fault .place ≤ length (gatesOf (now gates))) × (fault .line < mostLines) ⌝ }
     ensures { λ r. ⌜ r ≡ run (drop (fault .place) (gatesOf (now (gates .entry)))) (force (forward (gatesOf (now (gates .entry))) (fault .place) vector) (fault .line) (fault .value)) ⌝ }
 {
-    let place = fault.place;
-    let level = numbers::level(place as usize);
+    let level = places::level_of(fault);
     let state = run_forward(lines, gates, level, vector);
     run_rest(
         lines,
@@ -57,125 +57,117 @@ fn run_stuck_at(lines: u32, gates: &[u32], vector: u32, fault: Fault) -> u32
 }
 
 // The output with a gate left out.
-fn run_without(lines: u32, gates: &[u32], vector: u32, gate: GateNumber) -> u32
+fn run_without(lines: u32, gates: &[u32], vector: u32, fault: Fault) -> u32
     requires { ⌜ Sound lines (now gates) ⌝ }
-    requires { ⌜ (0 < gate .0) × (gate .0 ≤ length (gatesOf (now gates))) ⌝ }
-    ensures { λ r. ⌜ r ≡ run (drop (gate .0) (gatesOf (now (gates .entry)))) (forward (gatesOf (now (gates .entry))) (gate .0 - 1) vector) ⌝ }
+    requires { ⌜ (1 ≤ fault .place) × (fault .place ≤ length (gatesOf (now gates))) ⌝ }
+    ensures { λ r. ⌜ r ≡ run (drop (fault .place) (gatesOf (now (gates .entry)))) (forward (gatesOf (now (gates .entry))) (fault .place - 1) vector) ⌝ }
 {
+    let gate = places::gate_of(fault);
     let state = run_forward(lines, gates, numbers::level_read(gate), vector);
     run_rest(lines, gates, numbers::level_made(gate), state)
 }
 
 // The output with another gate in the place of a gate.
-fn run_changed(lines: u32, gates: &[u32], vector: u32, gate: GateNumber, other: Gate) -> u32
+fn run_changed(lines: u32, gates: &[u32], vector: u32, fault: Fault, other: Gate) -> u32
     requires { ⌜ Sound lines (now gates) ⌝ }
-    requires { ⌜ (0 < gate .0) × ((gate .0 ≤ length (gatesOf (now gates))) × (other .target < 32)) ⌝ }
-    ensures { λ r. ⌜ r ≡ run (drop (gate .0) (gatesOf (now (gates .entry)))) (step other (forward (gatesOf (now (gates .entry))) (gate .0 - 1) vector)) ⌝ }
+    requires { ⌜ (1 ≤ fault .place) × (fault .place ≤ length (gatesOf (now gates))) ⌝ }
+    requires { ⌜ other .target < mostLines ⌝ }
+    ensures { λ r. ⌜ r ≡ run (drop (fault .place) (gatesOf (now (gates .entry)))) (step other (forward (gatesOf (now (gates .entry))) (fault .place - 1) vector)) ⌝ }
 {
+    let gate = places::gate_of(fault);
     let state = run_forward(lines, gates, numbers::level_read(gate), vector);
     run_rest(lines, gates, numbers::level_made(gate), step(other, state))
 }
 
-// The output of the circuit with a fault in it.
+// The gate of a fault, without the control that the fault names.
+fn gate_less(lines: u32, gates: &[u32], fault: Fault) -> Gate
+    requires { ⌜ Sound lines (now gates) ⌝ }
+    requires { ⌜ (1 ≤ fault .place) × (fault .place ≤ length (gatesOf (now gates))) × (fault .line < mostLines) ⌝ }
+    ensures { λ r. ⌜ r ≡ lessControl (fault .line) (gateAt (gatesOf (now (gates .entry))) (fault .place)) ⌝ }
+{
+    less_control(gate_at(gates, places::gate_of(fault)), fault.line)
+}
+
+// The gate of a fault, with the line that the fault names as a control too.
+fn gate_more(lines: u32, gates: &[u32], fault: Fault) -> Gate
+    requires { ⌜ Sound lines (now gates) ⌝ }
+    requires { ⌜ (1 ≤ fault .place) × (fault .place ≤ length (gatesOf (now gates))) × (fault .line < mostLines) ⌝ }
+    ensures { λ r. ⌜ r ≡ moreControl (fault .line) (gateAt (gatesOf (now (gates .entry))) (fault .place)) ⌝ }
+{
+    more_control(gate_at(gates, places::gate_of(fault)), fault.line)
+}
+
+// The output of the circuit with a fault in it: a decision over the class number.
 pub fn faulty_run(lines: u32, gates: &[u32], vector: u32, fault: Fault) -> u32
     requires { ⌜ Sound lines (now gates) ⌝ }
     requires { ⌜ isFault lines (gatesOf (now gates)) fault ≡ true ⌝ }
     ensures { λ r. ⌜ r ≡ faulty (gatesOf (now (gates .entry))) fault vector ⌝ }
 {
     let class = fault.class;
-    let place = fault.place;
-    let line = fault.line;
-    if class == 1 {
-        return run_stuck_at(lines, gates, vector, fault);
+    match class {
+        1 => run_stuck_at(lines, gates, vector, fault),
+        2 => run_without(lines, gates, vector, fault),
+        3 => run_changed(lines, gates, vector, fault, gate_less(lines, gates, fault)),
+        4 => run_changed(lines, gates, vector, fault, gate_more(lines, gates, fault)),
+        0 | 5..=4294967295 => run_rest(lines, gates, numbers::level(0), vector),
     }
-    let number = numbers::gate(place as usize);
-    if class == 2 {
-        return run_without(lines, gates, vector, number);
-    }
-    let gate = gate_at(gates, number);
-    if class == 3 {
-        return run_changed(lines, gates, vector, number, less_control(gate, line));
-    }
-    run_changed(lines, gates, vector, number, more_control(gate, line))
 }
 
 // Whether a line has the other value at a level.
 fn catches_stuck_at(lines: u32, gates: &[u32], vector: u32, fault: Fault) -> bool
     requires { ⌜ Sound lines (now gates) ⌝ }
-    requires { ⌜ (fault .place ≤ length (gatesOf (now gates))) × (fault .line < 32) ⌝ }
+    requires { ⌜ (fault .place ≤ length (gatesOf (now gates))) × (fault .line < mostLines) ⌝ }
     ensures { λ r. ⌜ r ≡ not (eqb (bit (forward (gatesOf (now (gates .entry))) (fault .place) vector) (fault .line)) (fault .value)) ⌝ }
 {
-    let place = fault.place;
-    let state = run_forward(lines, gates, numbers::level(place as usize), vector);
+    let state = run_forward(lines, gates, places::level_of(fault), vector);
     words::checked::value(state, fault.line) != fault.value
 }
 
-// Whether a missing gate shows in the state that it would read: where all its controls are 1.
-fn shows_missing(gate: Gate, state: u32) -> bool
-    ensures { λ r. ⌜ r ≡ fires gate state ⌝ }
-{
-    fires(gate, state)
-}
-
-// Whether all controls of a gate are 1 at the level it reads.
-fn catches_missing_gate(lines: u32, gates: &[u32], vector: u32, gate: GateNumber) -> bool
+// Whether a gate changes the state that it reads.
+fn catches_missing_gate(lines: u32, gates: &[u32], vector: u32, fault: Fault) -> bool
     requires { ⌜ Sound lines (now gates) ⌝ }
-    requires { ⌜ (0 < gate .0) × (gate .0 ≤ length (gatesOf (now gates))) ⌝ }
-    ensures { λ r. ⌜ r ≡ fires (gateAt (gatesOf (now (gates .entry))) (gate .0)) (forward (gatesOf (now (gates .entry))) (gate .0 - 1) vector) ⌝ }
+    requires { ⌜ (1 ≤ fault .place) × (fault .place ≤ length (gatesOf (now gates))) ⌝ }
+    ensures { λ r. ⌜ r ≡ not (eqb (forward (gatesOf (now (gates .entry))) (fault .place - 1) vector) (step (gateAt (gatesOf (now (gates .entry))) (fault .place)) (forward (gatesOf (now (gates .entry))) (fault .place - 1) vector))) ⌝ }
 {
+    let gate = places::gate_of(fault);
     let state = run_forward(lines, gates, numbers::level_read(gate), vector);
-    shows_missing(gate_at(gates, gate), state)
+    state != step(gate_at(gates, gate), state)
 }
 
-// Whether a line is 0 at the level that a gate reads, and all controls of a gate in its place are 1.
-fn catches_control(
-    lines: u32,
-    gates: &[u32],
-    vector: u32,
-    gate: GateNumber,
-    line: u32,
-    other: Gate,
-) -> bool
+// Whether another gate in the place of a gate makes another state of the one that it reads.
+fn catches_changed(lines: u32, gates: &[u32], vector: u32, fault: Fault, other: Gate) -> bool
     requires { ⌜ Sound lines (now gates) ⌝ }
-    requires { ⌜ (0 < gate .0) × ((gate .0 ≤ length (gatesOf (now gates))) × (line < 32)) ⌝ }
-    ensures { λ r. ⌜ r ≡ (eqb (bit (forward (gatesOf (now (gates .entry))) (gate .0 - 1) vector) line) 0 && fires other (forward (gatesOf (now (gates .entry))) (gate .0 - 1) vector)) ⌝ }
+    requires { ⌜ (1 ≤ fault .place) × (fault .place ≤ length (gatesOf (now gates))) ⌝ }
+    requires { ⌜ other .target < mostLines ⌝ }
+    ensures { λ r. ⌜ r ≡ not (eqb (step other (forward (gatesOf (now (gates .entry))) (fault .place - 1) vector)) (step (gateAt (gatesOf (now (gates .entry))) (fault .place)) (forward (gatesOf (now (gates .entry))) (fault .place - 1) vector))) ⌝ }
 {
+    let gate = places::gate_of(fault);
     let state = run_forward(lines, gates, numbers::level_read(gate), vector);
-    if words::checked::value(state, line) != 0 {
-        return false;
-    }
-    fires(other, state)
+    step(other, state) != step(gate_at(gates, gate), state)
 }
 
-// Whether a vector catches a fault: the condition of its class.
+// Whether a vector catches a fault: a decision over the class number, by what each class changes at one level.
 pub fn catches(lines: u32, gates: &[u32], vector: u32, fault: Fault) -> bool
     requires { ⌜ Sound lines (now gates) ⌝ }
     requires { ⌜ isFault lines (gatesOf (now gates)) fault ≡ true ⌝ }
     ensures { λ r. ⌜ r ≡ caught (gatesOf (now (gates .entry))) fault vector ⌝ }
 {
     let class = fault.class;
-    let place = fault.place;
-    let line = fault.line;
-    if class == 1 {
-        return catches_stuck_at(lines, gates, vector, fault);
+    match class {
+        1 => catches_stuck_at(lines, gates, vector, fault),
+        2 => catches_missing_gate(lines, gates, vector, fault),
+        3 => catches_changed(lines, gates, vector, fault, gate_less(lines, gates, fault)),
+        4 => catches_changed(lines, gates, vector, fault, gate_more(lines, gates, fault)),
+        0 | 5..=4294967295 => false,
     }
-    let number = numbers::gate(place as usize);
-    if class == 2 {
-        return catches_missing_gate(lines, gates, vector, number);
-    }
-    let gate = gate_at(gates, number);
-    if class == 3 {
-        return catches_control(lines, gates, vector, number, line, less_control(gate, line));
-    }
-    catches_control(lines, gates, vector, number, line, gate)
 }
 
 // One entry's line, forced where the state is at its level.
-fn force_entry(fault: Fault, level: u32, state: u32) -> u32
-    requires { ⌜ fault .line < 32 ⌝ }
-    ensures { λ r. ⌜ r ≡ choice (eqb (fault .place) level) (force state (fault .line) (fault .value)) state ⌝ }
+fn force_entry(fault: Fault, level: LevelNumber, state: u32) -> u32
+    requires { ⌜ fault .line < mostLines ⌝ }
+    ensures { λ r. ⌜ r ≡ choice (eqb (fault .place) (level .0)) (force state (fault .line) (fault .value)) state ⌝ }
 {
-    if fault.place == level {
+    if numbers::same_level(places::level_of(fault), level) {
         words::checked::force(state, fault.line, fault.value)
     } else {
         state
@@ -183,10 +175,10 @@ fn force_entry(fault: Fault, level: u32, state: u32) -> u32
 }
 
 // The lines stuck at a level, forced.
-fn force_level(lines: u32, gates: &[u32], entries: &[u32], level: u32, state: u32) -> u32
+fn force_level(lines: u32, gates: &[u32], entries: &[u32], level: LevelNumber, state: u32) -> u32
     requires { ⌜ Sound lines (now gates) ⌝ }
     requires { ⌜ Entries lines (gatesOf (now gates)) (now entries) ⌝ }
-    ensures { λ r. ⌜ r ≡ forceAt (faultsOf (now (entries .entry))) level state ⌝ }
+    ensures { λ r. ⌜ r ≡ forceAt (faultsOf (now (entries .entry))) (level .0) state ⌝ }
 {
     let whole = entries.len() / 4;
     let mut now = state;
@@ -205,10 +197,10 @@ pub struct Both {
 }
 
 // The lines stuck at a level, forced in the faulty state alone.
-fn force_faulty(lines: u32, gates: &[u32], entries: &[u32], level: u32, both: Both) -> Both
+fn force_faulty(lines: u32, gates: &[u32], entries: &[u32], level: LevelNumber, both: Both) -> Both
     requires { ⌜ Sound lines (now gates) ⌝ }
     requires { ⌜ Entries lines (gatesOf (now gates)) (now entries) ⌝ }
-    ensures { λ r. ⌜ (r .good ≡ both .good) × (r .faulty ≡ forceAt (faultsOf (now (entries .entry))) level (both .faulty)) ⌝ }
+    ensures { λ r. ⌜ (r .good ≡ both .good) × (r .faulty ≡ forceAt (faultsOf (now (entries .entry))) (level .0) (both .faulty)) ⌝ }
 {
     Both {
         good: both.good,
@@ -228,13 +220,20 @@ pub fn run_stuck(lines: u32, gates: &[u32], entries: &[u32], vector: u32) -> Bot
     let mut faulty = vector;
     let mut i = 0;
     while i < end {
-        let forced = force_faulty(lines, gates, entries, i as u32, Both { good, faulty });
-        let gate = gate_at(gates, numbers::gate_after(numbers::level(i)));
+        let level = numbers::level(i);
+        let forced = force_faulty(lines, gates, entries, level, Both { good, faulty });
+        let gate = gate_at(gates, numbers::gate_after(level));
         good = step(gate, forced.good);
         faulty = step(gate, forced.faulty);
         i += 1;
     }
-    force_faulty(lines, gates, entries, end as u32, Both { good, faulty })
+    force_faulty(
+        lines,
+        gates,
+        entries,
+        numbers::level(end),
+        Both { good, faulty },
+    )
 }
 
 // Whether a vector catches several stuck lines together: the whole faulty run decides.
@@ -263,7 +262,7 @@ fn line_at_zero(fault: Fault) -> bool
 
 // All lines 1, save the one that the test for a fault wants at 0.
 fn test_state(lines: u32, fault: Fault) -> u32
-    requires { ⌜ (lines ≤ 32) × (fault .line < 32) ⌝ }
+    requires { ⌜ (lines ≤ mostLines) × (fault .line < mostLines) ⌝ }
     ensures { λ r. ⌜ r ≡ testState lines fault ⌝ }
 {
     let ones = words::checked::all_ones(lines);
@@ -280,15 +279,14 @@ pub fn test_for(lines: u32, gates: &[u32], fault: Fault) -> u32
     requires { ⌜ isFault lines (gatesOf (now gates)) fault ≡ true ⌝ }
     ensures { λ r. ⌜ r ≡ testFor lines (gatesOf (now (gates .entry))) fault ⌝ }
 {
-    let place = fault.place;
     let state = test_state(lines, fault);
     if fault.class == 1 {
-        return run_backward(lines, gates, numbers::level(place as usize), state);
+        return run_backward(lines, gates, places::level_of(fault), state);
     }
     run_backward(
         lines,
         gates,
-        numbers::level_read(numbers::gate(place as usize)),
+        numbers::level_read(places::gate_of(fault)),
         state,
     )
 }

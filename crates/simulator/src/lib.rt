@@ -1,23 +1,22 @@
-// The simulator: faults, faulty runs, what a vector catches, and the test for one fault.
+// The simulator: faulty runs, what a vector catches, and the test for one fault.
 ghost use mathlib.Core.Path.{_≡_};
 ghost use mathlib.Core.List.{[], _∷_};
 ghost use Rattle.basics.specs.Choice.{count};
-ghost use Rattle.refusals.specs.Tables.{firstOf};
 ghost use Rattle.refusals.specs.Tables.Told.{answered};
-ghost use Rattle.circuit.specs.Gates.{gatesOf};
-ghost use Rattle.circuit.specs.Answers.{told};
-ghost use Rattle.simulator.specs.Faulty.{faulty, caught, caughtTogether};
-ghost use Rattle.simulator.specs.Rules.{catchRows, testRows, multipleRows};
-ghost use Rattle.faults.specs.Records.{faultsOf};
-ghost use Rattle.simulator.specs.Tests.{testFor};
-ghost use Rattle.simulator.specs.Answers.{toldCaught, toldMade};
-use circuit::Ran;
+ghost use Rattle.simulator.specs.Answers.{toldOutput, toldCaught, toldMade};
+ghost use Rattle.simulator.specs.Promises.{outputTells, catchesTells, catchesMultipleTells, testForTells};
 use faults::Fault;
 use refusals::Checked;
 use refusals::Refusal;
 
 pub mod checked;
 pub mod rules;
+
+// The output of a circuit with a fault in it.
+pub enum Output {
+    Word(u32),
+    Refused(Refusal),
+}
 
 // Whether a vector catches a fault.
 pub enum Caught {
@@ -33,22 +32,18 @@ pub enum Made {
 }
 
 // The output of the circuit with a fault in it.
-pub fn faulty_run(lines: u32, gates: &[u32], vector: u32, fault: Fault) -> Ran
-    ensures { λ r. ⌜ told r ≡ firstOf
-        (catchRows lines (now (gates .entry)) vector fault)
-        (answered (faulty (gatesOf (now (gates .entry))) fault vector ∷ [])) ⌝ }
+pub fn faulty_run(lines: u32, gates: &[u32], vector: u32, fault: Fault) -> Output
+    ensures { λ r. ⌜ toldOutput r ≡ outputTells lines (now (gates .entry)) vector fault ⌝ }
 {
     match rules::check_catch(lines, gates, vector, fault) {
-        Checked::Wrong(refusal) => Ran::Refused(refusal),
-        Checked::Fine => Ran::State(checked::faulty_run(lines, gates, vector, fault)),
+        Checked::Wrong(refusal) => Output::Refused(refusal),
+        Checked::Fine => Output::Word(checked::faulty_run(lines, gates, vector, fault)),
     }
 }
 
 // Whether a vector catches a fault.
 pub fn catches(lines: u32, gates: &[u32], vector: u32, fault: Fault) -> Caught
-    ensures { λ r. ⌜ toldCaught r ≡ firstOf
-        (catchRows lines (now (gates .entry)) vector fault)
-        (answered (count (caught (gatesOf (now (gates .entry))) fault vector) ∷ [])) ⌝ }
+    ensures { λ r. ⌜ toldCaught r ≡ catchesTells lines (now (gates .entry)) vector fault ⌝ }
 {
     match rules::check_catch(lines, gates, vector, fault) {
         Checked::Wrong(refusal) => Caught::Refused(refusal),
@@ -58,9 +53,7 @@ pub fn catches(lines: u32, gates: &[u32], vector: u32, fault: Fault) -> Caught
 
 // Whether a vector catches a multiple stuck-at fault, lent as a plain list of entries.
 pub fn catches_multiple(lines: u32, gates: &[u32], vector: u32, entries: &[u32]) -> Caught
-    ensures { λ r. ⌜ toldCaught r ≡ firstOf
-        (multipleRows lines (now (gates .entry)) vector (now (entries .entry)))
-        (answered (count (caughtTogether (gatesOf (now (gates .entry))) (faultsOf (now (entries .entry))) vector) ∷ [])) ⌝ }
+    ensures { λ r. ⌜ toldCaught r ≡ catchesMultipleTells lines (now (gates .entry)) vector (now (entries .entry)) ⌝ }
 {
     match rules::check_multiple(lines, gates, vector, entries) {
         Checked::Wrong(refusal) => Caught::Refused(refusal),
@@ -70,9 +63,7 @@ pub fn catches_multiple(lines: u32, gates: &[u32], vector: u32, entries: &[u32])
 
 // The test for one fault: a vector that catches it.
 pub fn test_for(lines: u32, gates: &[u32], fault: Fault) -> Made
-    ensures { λ r. ⌜ toldMade r ≡ firstOf
-        (testRows lines (now (gates .entry)) fault)
-        (answered (testFor lines (gatesOf (now (gates .entry))) fault ∷ [])) ⌝ }
+    ensures { λ r. ⌜ toldMade r ≡ testForTells lines (now (gates .entry)) fault ⌝ }
 {
     match rules::check_test(lines, gates, fault) {
         Checked::Wrong(refusal) => Made::Refused(refusal),

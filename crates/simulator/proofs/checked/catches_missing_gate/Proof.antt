@@ -1,10 +1,14 @@
--- `simulator::checked::catches_missing_gate` meets its contract: the gate is asked at the level that it reads. Assumes nothing.
+-- `simulator::checked::catches_missing_gate` meets its contract: the gate is tried on the state that it reads. Assumes nothing.
+use Prim.Native.Nat.{_-_}
 use mathlib.Core.Path.{_≡_}
 use native.Mathlib.Omega.{arith}
-use Prim.Native.Nat.{_-_}
 use borrow.Author.Needs.{needs}
+use Rattle.circuit.proofs.RuleLaws.{target-fits}
 use Rattle.simulator.proofs.checked.catches_missing_gate.Statement.{statement}
 use Rattle.simulator.proofs.checked.catches_missing_gate.Tie as tie
+
+gate-of-requires : tie.Need-gate-of-requires
+gate-of-requires c κs = search needs
 
 level-read-requires : tie.Need-level-read-requires
 level-read-requires c κs = search needs
@@ -15,15 +19,25 @@ run-forward-requires c κs = search needs
 gate-at-requires : tie.Need-gate-at-requires
 gate-at-requires c κs = search needs
 
-shows-missing-requires : tie.Need-shows-missing-requires
-shows-missing-requires c κs = search needs
+step-requires : tie.Need-step-requires
+step-requires c κs =
+    let start = c .before .before .before .before .before in
+    let a = start .args in
+    rw (c .gate-at .ensures) (target-fits (a .lines) (a .gates .now) _ (start .pre .0) (omega arith) (omega arith))
 
 returns : tie.Need-returns
 returns c =
-    let read : c .before .before .before .level-read .result .0 ≡ c .before .before .before .before .before .args .gate .0 - 1 = omega arith in
+    let asked = c .before .before .before in
+    let read : asked .level-read .result .0 ≡ asked .before .before .before .args .fault .place - 1 = omega arith in
     cc
 
 pub catches-missing-gate-spec : {M : Type 1} → statement M
 catches-missing-gate-spec =
     tie.close
-    (tie.spec level-read-requires run-forward-requires gate-at-requires shows-missing-requires returns)
+    (tie.spec
+    gate-of-requires
+    level-read-requires
+    run-forward-requires
+    gate-at-requires
+    step-requires
+    returns)

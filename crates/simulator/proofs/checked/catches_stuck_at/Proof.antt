@@ -4,11 +4,8 @@ use borrow.Author.Needs.{needs}
 use Rattle.simulator.proofs.checked.catches_stuck_at.Statement.{statement}
 use Rattle.simulator.proofs.checked.catches_stuck_at.Tie as tie
 
-cast-level : tie.Need-cast-level
-cast-level c = search needs
-
-level-requires : tie.Need-level-requires
-level-requires c κs = search needs
+level-of-requires : tie.Need-level-of-requires
+level-of-requires c κs = search needs
 
 run-forward-requires : tie.Need-run-forward-requires
 run-forward-requires c κs = search needs
@@ -21,4 +18,9 @@ returns c = cc
 
 pub catches-stuck-at-spec : {M : Type 1} → statement M
 catches-stuck-at-spec =
-    tie.close (tie.spec cast-level level-requires run-forward-requires value-requires returns)
+    tie.close
+    (tie.spec
+    level-of-requires
+    run-forward-requires
+    value-requires
+    returns)

@@ -13,7 +13,7 @@ use Rattle.simulator.proofs.checked.force_level.Statement.{statement}
 use Rattle.simulator.proofs.checked.force_level.Tie as tie
 
 abbrev Inv-loop : tie.InvT-loop
-Inv-loop lines gates entries level state whole now₀ i₀ now i = forceAt (faultsOf entries) level state ≡ forceAt (drop i (faultsOf entries)) level now
+Inv-loop lines gates entries level state whole now₀ i₀ now i = forceAt (faultsOf entries) (level .0) state ≡ forceAt (drop i (faultsOf entries)) (level .0) now
 
 abbrev μ-loop : tie.MeasureT-loop
 μ-loop lines gates entries level state whole now₀ i₀ now i = whole - i
@@ -42,8 +42,8 @@ loop-again c =
     let l = c .before .before .before in
     let a = l .before .before .before .args in
     let number = records-count (a .entries .now) in
-    l .loop .inv ∙ force-more (faultsOf (a .entries .now)) (l .loop .i) (a .level) (l .loop .now) (omega arith)
-    ∙ ap (forceAt (drop (l .loop .i + 1) (faultsOf (a .entries .now))) (a .level))
+    l .loop .inv ∙ force-more (faultsOf (a .entries .now)) (l .loop .i) (a .level .0) (l .loop .now) (omega arith)
+    ∙ ap (forceAt (drop (l .loop .i + 1) (faultsOf (a .entries .now))) (a .level .0))
     (sym (c .force-entry .ensures ∙ rw (c .before .record-at .ensures)))
 
 returns : tie.Need-returns Inv-loop μ-loop
@@ -51,7 +51,7 @@ returns c =
     let l = c .before in
     let a = l .before .before .before .args in
     let number = records-count (a .entries .now) in
-    sym (l .loop .inv ∙ force-end (faultsOf (a .entries .now)) (l .loop .i) (a .level) (l .loop .now) (omega arith))
+    sym (l .loop .inv ∙ force-end (faultsOf (a .entries .now)) (l .loop .i) (a .level .0) (l .loop .now) (omega arith))
 
 pub force-level-spec : {M : Type 1} → statement M
 force-level-spec =

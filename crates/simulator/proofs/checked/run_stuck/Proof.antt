@@ -27,14 +27,11 @@ abbrev μ-loop : tie.MeasureT-loop
 loop-holds : tie.Need-loop-holds Inv-loop μ-loop
 loop-holds c = (sym (gates-count _), (search needs, (sym (forward-none _ _), refl)))
 
-cast-force-faulty : tie.Need-cast-force-faulty Inv-loop μ-loop
-cast-force-faulty c = omega arith
+level-requires : tie.Need-level-requires Inv-loop μ-loop
+level-requires c κs = search needs
 
 force-faulty-requires : tie.Need-force-faulty-requires Inv-loop μ-loop
 force-faulty-requires c κs = search needs
-
-level-requires : tie.Need-level-requires Inv-loop μ-loop
-level-requires c κs = search needs
 
 gate-after-requires : tie.Need-gate-after-requires Inv-loop μ-loop
 gate-after-requires c κs = omega arith
@@ -68,27 +65,29 @@ loop-again c =
     let fs = faultsOf (a .entries .now) in
     let i = l .loop .i in
     let gate = c .before .before .gate-at .ensures ∙ gate-entry gs i (c .before .before .before .gate-after .result .0) (omega arith) in
-    let forced = c .before .before .before .before .before .force-faulty .ensures in (
+    let reached = c .before .before .before .before in
+    let forced = reached .force-faulty .ensures in
+    let here : reached .before .level .result .0 ≡ i = reached .before .level .ensures in (
       l .loop .inv .0,
       (
         omega arith,
         (
           c .before .step .ensures ∙ rw (gate, forced .0) (good-more gs i (a .vector) (l .loop .good) (omega arith) (l .loop .inv .1 .1 .0)),
           l .loop .inv .1 .1 .1 ∙ stuck-more fs gs i (l .loop .faulty) (omega arith)
-              ∙ ap (stuckRun fs (i + 1) (drop (i + 1) gs)) (sym (c .step2 .ensures ∙ rw (gate, forced .1))),
+              ∙ ap (stuckRun fs (i + 1) (drop (i + 1) gs)) (sym (c .step2 .ensures ∙ rw (gate, forced .1, here))),
         ),
       ),
     )
 
-cast-force-faulty-2 : tie.Need-cast-force-faulty-2 Inv-loop μ-loop
-cast-force-faulty-2 c = omega arith
+level-requires-2 : tie.Need-level-requires-2 Inv-loop μ-loop
+level-requires-2 c κs = search needs
 
 force-faulty-requires-2 : tie.Need-force-faulty-requires-2 Inv-loop μ-loop
 force-faulty-requires-2 c κs = search needs
 
 returns : tie.Need-returns Inv-loop μ-loop
 returns c =
-    let l = c .before .before in
+    let l = c .before .before .before in
     let a = l .before .before .before .args in
     let gs = gatesOf (a .gates .now) in
     let fs = faultsOf (a .entries .now) in
@@ -97,7 +96,7 @@ returns c =
     let all : i ≡ length gs = omega arith in
     let forced = c .force-faulty2 .ensures in (
       forced .0 ∙ l .loop .inv .1 .1 .0 ∙ rw all (forward-all gs (a .vector)),
-      forced .1 ∙ sym (l .loop .inv .1 .1 .1 ∙ stuck-end fs gs i (l .loop .faulty) (omega arith) ∙ rw last),
+      forced .1 ∙ rw (c .before .level2 .ensures) (sym (l .loop .inv .1 .1 .1 ∙ stuck-end fs gs i (l .loop .faulty) (omega arith) ∙ rw last)),
     )
 
 pub run-stuck-spec : {M : Type 1} → statement M
@@ -107,9 +106,8 @@ run-stuck-spec =
     Inv-loop
     μ-loop
     loop-holds
-    cast-force-faulty
-    force-faulty-requires
     level-requires
+    force-faulty-requires
     gate-after-requires
     gate-at-requires
     step-requires
@@ -117,6 +115,6 @@ run-stuck-spec =
     add-i
     loop-less
     loop-again
-    cast-force-faulty-2
+    level-requires-2
     force-faulty-requires-2
     returns)

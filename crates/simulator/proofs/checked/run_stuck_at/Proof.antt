@@ -3,11 +3,8 @@ use borrow.Author.Needs.{needs}
 use Rattle.simulator.proofs.checked.run_stuck_at.Statement.{statement}
 use Rattle.simulator.proofs.checked.run_stuck_at.Tie as tie
 
-cast-level : tie.Need-cast-level
-cast-level c = search needs
-
-level-requires : tie.Need-level-requires
-level-requires c κs = search needs
+level-of-requires : tie.Need-level-of-requires
+level-of-requires c κs = search needs
 
 run-forward-requires : tie.Need-run-forward-requires
 run-forward-requires c κs = search needs
@@ -25,8 +22,7 @@ pub run-stuck-at-spec : {M : Type 1} → statement M
 run-stuck-at-spec =
     tie.close
     (tie.spec
-    cast-level
-    level-requires
+    level-of-requires
     run-forward-requires
     force-requires
     run-rest-requires

@@ -1,10 +1,13 @@
 -- `simulator::checked::run_without` meets its contract: the state that the gate reads goes on as the state that it would make. Assumes nothing.
+use Prim.Native.Nat.{_-_}
 use mathlib.Core.Path.{_≡_}
 use native.Mathlib.Omega.{arith}
-use Prim.Native.Nat.{_-_}
 use borrow.Author.Needs.{needs}
 use Rattle.simulator.proofs.checked.run_without.Statement.{statement}
 use Rattle.simulator.proofs.checked.run_without.Tie as tie
+
+gate-of-requires : tie.Need-gate-of-requires
+gate-of-requires c κs = search needs
 
 level-read-requires : tie.Need-level-read-requires
 level-read-requires c κs = search needs
@@ -20,13 +23,15 @@ run-rest-requires c κs = search needs
 
 returns : tie.Need-returns
 returns c =
-    let read : c .before .before .before .level-read .result .0 ≡ c .before .before .before .before .before .args .gate .0 - 1 = omega arith in
+    let asked = c .before .before .before in
+    let read : asked .level-read .result .0 ≡ asked .before .before .before .args .fault .place - 1 = omega arith in
     cc
 
 pub run-without-spec : {M : Type 1} → statement M
 run-without-spec =
     tie.close
     (tie.spec
+    gate-of-requires
     level-read-requires
     run-forward-requires
     level-made-requires

@@ -3,79 +3,74 @@
 use Prim.Native.Nat.{_-_}
 use mathlib.Core.Path.{_≡_, sym, _∙_}
 use native.Mathlib.Omega.{arith}
-use Rattle.simulator.specs.Tests.{testLevel, testFor}
-use Rattle.faults.proofs.ClassLaws.{stuck-fault, names-gate, names-line}
-use Rattle.simulator.proofs.TestLaws.{level-stuck, level-gate}
 use borrow.Author.Needs.{needs}
+use Rattle.faults.proofs.ClassLaws.{stuck-fault, names-gate, names-line}
+use Rattle.simulator.specs.Tests.{testLevel, testFor}
+use Rattle.simulator.proofs.TestLaws.{level-stuck, level-gate}
 use Rattle.simulator.proofs.checked.test_for.Statement.{statement}
 use Rattle.simulator.proofs.checked.test_for.Tie as tie
 
 test-state-requires : tie.Need-test-state-requires
 test-state-requires c κs =
-    let a = c .before .args in
-    let l = names-line (a .lines) (a .gates .now) (a .fault) (c .before .pre .0) (c .before .pre .1) in
+    let start = c .before in
+    let a = start .args in
+    let l = names-line (a .lines) (a .gates .now) (a .fault) (start .pre .0) (start .pre .1) in
     (omega arith, omega arith)
 
-cast-level : tie.Need-cast-level
-cast-level c = search needs
-
-level-requires : tie.Need-level-requires
-level-requires c κs = search needs
+level-of-requires : tie.Need-level-of-requires
+level-of-requires c κs = search needs
 
 run-backward-requires : tie.Need-run-backward-requires
 run-backward-requires c κs =
-    let a = c .before .before .before .before .before .args in
-    let k = stuck-fault (a .lines) (a .gates .now) (a .fault) (c .before .before .before .before .before .pre .0)
-    (c .before .before .before .before .before .pre .1) (c .before .if1 .taken) in
-    (search needs, omega arith)
+    let start = c .before .before .before .before .before in
+    let a = start .args in
+    let k = stuck-fault (a .lines) (a .gates .now) (a .fault) (start .pre .0) (start .pre .1) (c .before .if1 .taken) in
+    (start .pre .0, omega arith)
 
 returns : tie.Need-returns
 unfolding testFor
 returns c =
-    let a = c .before .before .before .before .before .before .args in
-    let level : c .before .level .result .0 ≡ testLevel (a .fault) = c .before .level .ensures
-    ∙ sym (level-stuck (a .fault) (c .before .before .if1 .taken)) in
-    c .run-backward .ensures ∙ rw (level, c .before .before .before .before .test-state .ensures)
+    let branch = c .before .before in
+    let a = branch .before .before .before .before .args in
+    let level : c .before .level-of .result .0 ≡ testLevel (a .fault) = c .before .level-of .ensures ∙ sym (level-stuck (a .fault) (branch .if1 .taken)) in
+    c .run-backward .ensures ∙ rw (level, branch .before .before .test-state .ensures)
 
-cast-gate : tie.Need-cast-gate
-cast-gate c = search needs
-
-gate-requires : tie.Need-gate-requires
-gate-requires c κs = search needs
+gate-of-requires : tie.Need-gate-of-requires
+gate-of-requires c κs = search needs
 
 level-read-requires : tie.Need-level-read-requires
 level-read-requires c κs =
-    let a = c .before .before .before .before .before .args in
-    let w = names-gate (a .lines) (a .gates .now) (a .fault) (c .before .before .before .before .before .pre .0)
-    (c .before .before .before .before .before .pre .1) (c .before .if1 .left) in
+    let start = c .before .before .before .before .before in
+    let a = start .args in
+    let w = names-gate (a .lines) (a .gates .now) (a .fault) (start .pre .0) (start .pre .1) (c .before .if1 .left) in
     omega arith
 
 run-backward-requires-2 : tie.Need-run-backward-requires-2
 run-backward-requires-2 c κs =
-    let a = c .before .before .before .before .before .before .args in
-    let w = names-gate (a .lines) (a .gates .now) (a .fault) (c .before .before .before .before .before .before .pre .0)
-    (c .before .before .before .before .before .before .pre .1) (c .before .before .if1 .left) in
-    (search needs, omega arith)
+    let branch = c .before .before in
+    let start = branch .before .before .before .before in
+    let a = start .args in
+    let w = names-gate (a .lines) (a .gates .now) (a .fault) (start .pre .0) (start .pre .1) (branch .if1 .left) in
+    (start .pre .0, omega arith)
 
 returns-2 : tie.Need-returns-2
 unfolding testFor
 returns-2 c =
-    let a = c .before .before .before .before .before .before .before .args in
+    let branch = c .before .before .before in
+    let a = branch .before .before .before .before .args in
     let read : c .before .level-read .result .0 ≡ a .fault .place - 1 = omega arith in
-    let level : c .before .level-read .result .0 ≡ testLevel (a .fault) = read ∙ sym (level-gate (a .fault) (c .before .before .before .if1 .left)) in
-    c .run-backward2 .ensures ∙ rw (level, c .before .before .before .before .before .test-state .ensures)
+    let level : c .before .level-read .result .0 ≡ testLevel (a .fault) = read ∙ sym (level-gate (a .fault) (branch .if1 .left)) in
+    c .run-backward2 .ensures ∙ rw (level, branch .before .before .test-state .ensures)
 
 pub test-for-spec : {M : Type 1} → statement M
 test-for-spec =
     tie.close
     (tie.spec
     test-state-requires
-    cast-level
-    level-requires
+    level-of-requires
     run-backward-requires
     returns
-    cast-gate
-    gate-requires
+    gate-of-requires
     level-read-requires
     run-backward-requires-2
     returns-2)

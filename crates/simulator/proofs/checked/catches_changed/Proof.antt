@@ -1,0 +1,47 @@
+-- `simulator::checked::catches_changed` meets its contract: both gates are tried on the state that the gate reads. Assumes nothing.
+use Prim.Native.Nat.{_-_}
+use mathlib.Core.Path.{_≡_}
+use native.Mathlib.Omega.{arith}
+use borrow.Author.Needs.{needs}
+use Rattle.circuit.proofs.RuleLaws.{target-fits}
+use Rattle.simulator.proofs.checked.catches_changed.Statement.{statement}
+use Rattle.simulator.proofs.checked.catches_changed.Tie as tie
+
+gate-of-requires : tie.Need-gate-of-requires
+gate-of-requires c κs = search needs
+
+level-read-requires : tie.Need-level-read-requires
+level-read-requires c κs = search needs
+
+run-forward-requires : tie.Need-run-forward-requires
+run-forward-requires c κs = search needs
+
+step-requires : tie.Need-step-requires
+step-requires c κs = search needs
+
+gate-at-requires : tie.Need-gate-at-requires
+gate-at-requires c κs = search needs
+
+step-requires-2 : tie.Need-step-requires-2
+step-requires-2 c κs =
+    let start = c .before .before .before .before .before .before in
+    let a = start .args in
+    rw (c .gate-at .ensures) (target-fits (a .lines) (a .gates .now) _ (start .pre .0) (omega arith) (omega arith))
+
+returns : tie.Need-returns
+returns c =
+    let asked = c .before .before .before .before in
+    let read : asked .level-read .result .0 ≡ asked .before .before .before .args .fault .place - 1 = omega arith in
+    cc
+
+pub catches-changed-spec : {M : Type 1} → statement M
+catches-changed-spec =
+    tie.close
+    (tie.spec
+    gate-of-requires
+    level-read-requires
+    run-forward-requires
+    step-requires
+    gate-at-requires
+    step-requires-2
+    returns)
