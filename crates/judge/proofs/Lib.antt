@@ -5,3 +5,4 @@ pub mod SetLaws
 pub mod RuleLaws
 pub mod AnswerLaws
 pub mod Theorems
+pub mod CoverageTheorems

@@ -1,23 +1,25 @@
 -- What a set and a class that break no rule are.
 use Prim.Native.Nat.{ℕ, _^_, _<_, _≤_}
 use mathlib.Core.Path.{_≡_, sym, ap, _∙_}
-use mathlib.Core.Bool.{not, _||_}
-use mathlib.Core.List.{List, [], _∷_, _++_}
+use mathlib.Core.Bool.{not}
+use mathlib.Core.List.{List, [], _∷_}
+use native.Mathlib.Omega.{arith}
 use lib.ListN.{length}
-use lib.Dec.{eqb, ltb, leb}
+use lib.Dec.{eqb, leb}
 use borrow.Author.Tests.{leb-true, lt-leb, not-false}
 use Rattle.basics.specs.Choice.{choice}
-use Rattle.basics.proofs.Tests.{and-both, or-neither}
+use Rattle.basics.proofs.Tests.{and-both}
 use Rattle.refusals.specs.Tables.{firstOf}
 use Rattle.refusals.specs.Tables.Row.{refuse_at_when_}
 use Rattle.refusals.specs.Tables.Told.{refused}
 use Rattle.refusals.specs.Checks.{fine}
 use Rattle.refusals.proofs.Tables.{fine-row, fine-parts, fine-on}
 use Rattle.circuit.specs.Gates.{gatesOf}
-use Rattle.circuit.specs.Rules.{circuitSetRows, circuitRows, firstBadVector, setRows, vectorRows}
+use Rattle.circuit.specs.Rules.{badLines, badCounts, circuitSetRows, circuitRows, firstBadVector, setRows, vectorRows}
 use Rattle.circuit.specs.Sound.{Sound}
-use Rattle.circuit.proofs.RuleLaws.{sound, VectorsOk, vectors-ok}
+use Rattle.circuit.proofs.RuleLaws.{sound, VectorsOk, vectors-ok, counts-right, counts-good}
 use Rattle.faults.specs.Classes.{isClass}
+use Rattle.judge.specs.Promises.{withVectorTells}
 use Rattle.judge.specs.Rules.{classRows, judgeRows, countRows}
 
 pub class-ok : (class : ℕ) → fine ≡ firstOf (classRows class) fine → (1 ≤ class) × (class ≤ 4)
@@ -55,12 +57,13 @@ set-circuit n words xs class e =
     let set = fine-parts (setRows n words xs) (classRows class) e .0 in
     let all = fine-parts (circuitSetRows n words (length xs))
     (refuse 8 at firstBadVector n xs when not (eqb (firstBadVector n xs) 0) ∷ []) set .0 in
-    let lines = fine-row (ltb n 1 || ltb 32 n) 3 0 _ all in
-    let sizes = fine-row (ltb 1024 (length (gatesOf words)) || ltb 2048 (length xs)) 5 0 _ (lines .1) in
-    rw (lines .0, or-neither (ltb 1024 (length (gatesOf words))) (ltb 2048 (length xs)) (sizes .0) .0) (sizes .1)
+    let lines = fine-row (badLines n) 3 0 _ all in
+    let counts = fine-row (badCounts (length (gatesOf words)) (length xs)) 5 0 _ (lines .1) in
+    let fit = counts-right (length (gatesOf words)) (length xs) (counts .0) in
+    rw (lines .0, counts-good (length (gatesOf words)) 0 (fit .0) (omega arith)) (counts .1)
 
 pub vector-passes : (n : ℕ) (words : List ℕ) (x : ℕ) → fine ≡ firstOf (circuitRows n words) fine → x < 2 ^ n
-    → fine ≡ firstOf (circuitRows n words ++ vectorRows n x) fine
+    → fine ≡ withVectorTells n words x
 unfolding vectorRows
 vector-passes n words x e h = sym (fine-on (circuitRows n words) (vectorRows n x) fine e ∙ ap (λ b. choice b (refused 8 1) fine) (lt-leb (2 ^ n) x h))
 

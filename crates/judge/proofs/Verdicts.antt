@@ -1,4 +1,4 @@
--- Laws of verdicts: what is left and what is caught, of any list of faults and any vectors.
+-- Laws of verdicts: what is caught and what is not, of any list of faults and any vectors.
 use Prim.Native.Nat.{ℕ, _+_}
 use mathlib.Core.Path.{_≡_, refl, sym, ap, _∙_, subst}
 use mathlib.Core.Logic.{_↔_}
@@ -14,7 +14,7 @@ use Rattle.basics.proofs.ListMore.{some-append, some-same, first-kept}
 use Rattle.circuit.specs.declared.Gate.{Gate}
 use Rattle.simulator.specs.Faulty.{caught}
 use Rattle.faults.specs.declared.Fault.{Fault}
-use Rattle.judge.specs.Judging.{caughtBySome, caughtOf, left}
+use Rattle.judge.specs.Judging.{caughtBySome, caughtOf, uncaughtOf}
 
 -- two sets that have the same vectors, in any order and any number of times
 abbrev pub SameVectors : List ℕ → List ℕ → Type 0
@@ -47,20 +47,20 @@ module _ (gs : List Gate) (xs : List ℕ) (f : Fault) where
 -- ---- a list of faults
 
 module _ (gs : List Gate) (xs : List ℕ) (fs : List Fault) where
-  -- nothing is left where every fault is caught by some vector, and only there
-  pub complete-iff : (left gs xs fs ≡ []) ↔ All (λ f. (x : ℕ) × List·Memᴰ x xs × (caught gs f x ≡ true)) fs
-  unfolding left
+  -- no fault is uncaught where every fault is caught by some vector, and only there
+  pub complete-iff : (uncaughtOf gs xs fs ≡ []) ↔ All (λ f. (x : ℕ) × List·Memᴰ x xs × (caught gs f x ≡ true)) fs
+  unfolding uncaughtOf
   complete-iff = (
     λ e. all-map (λ f h. some-catches gs xs f (not-false (caughtBySome gs xs f) h)) fs (none-kept (λ f. not (caughtBySome gs xs f)) fs e),
     λ w. keep-none (λ f. not (caughtBySome gs xs f)) fs (all-map (λ f h. ap not (catches-some gs xs f (h .0) (h .1) (h .2))) fs w),
   )
 
-  -- the first fault that is left: one of the list, which no vector catches, and every fault before it is caught
-  pub first-left : (f : Fault) (rest : List Fault) → left gs xs fs ≡ f ∷ rest
+  -- the first uncaught fault: one of the list, which no vector catches, and every fault before it is caught
+  pub first-uncaught : (f : Fault) (rest : List Fault) → uncaughtOf gs xs fs ≡ f ∷ rest
       → List·Memᴰ f fs × (caughtBySome gs xs f ≡ false)
       × ((before : List Fault) × (after : List Fault) × (fs ≡ before ++ (f ∷ after)) × All (λ h. caughtBySome gs xs h ≡ true) before)
-  unfolding left
-  first-left f rest e =
+  unfolding uncaughtOf
+  first-uncaught f rest e =
       let r = first-kept (λ h. not (caughtBySome gs xs h)) fs f rest e in
       let member = subst (List·Memᴰ f) (sym (r .parts)) (Memᴰ·append-right (r .before) (List·Memᴰ·head refl)) in (
         member,
@@ -68,15 +68,15 @@ module _ (gs : List Gate) (xs : List ℕ) (fs : List Fault) where
         (r .before, r .after, r .parts, all-map (λ h. not-false (caughtBySome gs xs h)) (r .before) (r .failed)),
       )
 
-  -- what is caught and what is left are all
-  pub verdict-parts : length (caughtOf gs xs fs) + length (left gs xs fs) ≡ length fs
-  unfolding caughtOf left
+  -- what is caught and what is not are all
+  pub verdict-parts : length (caughtOf gs xs fs) + length (uncaughtOf gs xs fs) ≡ length fs
+  unfolding caughtOf uncaughtOf
   verdict-parts = keep-parts (caughtBySome gs xs) fs
 
   pub caught-of-same : (ys : List ℕ) → SameVectors xs ys → caughtOf gs xs fs ≡ caughtOf gs ys fs
   unfolding caughtOf
   caught-of-same ys same = keep-cong (λ f. caught-same gs xs f ys same) fs
 
-  pub left-same : (ys : List ℕ) → SameVectors xs ys → left gs xs fs ≡ left gs ys fs
-  unfolding left
-  left-same ys same = keep-cong (λ f. ap not (caught-same gs xs f ys same)) fs
+  pub uncaught-same : (ys : List ℕ) → SameVectors xs ys → uncaughtOf gs xs fs ≡ uncaughtOf gs ys fs
+  unfolding uncaughtOf
+  uncaught-same ys same = keep-cong (λ f. ap not (caught-same gs xs f ys same)) fs

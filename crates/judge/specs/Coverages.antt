@@ -1,10 +1,11 @@
 -- Coverage so far: which faults the vectors given so far catch, as words of lines.
 use Prim.Native.Nat.{ℕ}
-use mathlib.Core.Bool.{Bool}
+use mathlib.Core.Bool.{Bool, false}
 use mathlib.Core.List.{List, [], _∷_}
 use lib.ListN.{replicate}
 use lib.Dec.{eqb}
 use Rattle.basics.specs.Choice.{choice}
+use Rattle.circuit.specs.Limits.{mostGates, levels}
 use Rattle.circuit.specs.declared.Gate.{Gate}
 use Rattle.marking.specs.Marks.{marked, levelMarks, gateMarks, levelMarked, gateMarked}
 use Rattle.faults.specs.declared.Fault.{Fault}
@@ -13,11 +14,11 @@ use Rattle.judge.specs.declared.coverage.Coverage.{Coverage}
 -- nothing is caught
 unfoldable pub emptyCoverage : Coverage
 emptyCoverage = record {
-  «stuck_at_0» = replicate 1025 0;
-  «stuck_at_1» = replicate 1025 0;
-  «missing_gates» = replicate 1024 0;
-  «missing_controls» = replicate 1024 0;
-  «extra_controls» = replicate 1024 0;
+  «stuck_at_0» = replicate levels 0;
+  «stuck_at_1» = replicate levels 0;
+  «missing_gates» = replicate mostGates 0;
+  «missing_controls» = replicate mostGates 0;
+  «extra_controls» = replicate mostGates 0;
 }
 
 -- the coverage with one vector added
@@ -35,10 +36,10 @@ unfoldable pub withAll : Coverage → ℕ → List Gate → List ℕ → Coverag
 withAll c n gs [] = c
 withAll c n gs (x ∷ xs) = withAll (withVector c n gs x) n gs xs
 
--- whether a coverage has the mark of a fault
+-- whether a coverage has the mark of a fault; a class that there is not has no marks
 unfoldable pub isMarked : Coverage → Fault → Bool
 isMarked c f =
     choice (eqb (f .class) 1) (levelMarked (c .«stuck_at_0») (c .«stuck_at_1») f)
     (choice (eqb (f .class) 2) (gateMarked (c .«missing_gates») f)
     (choice (eqb (f .class) 3) (gateMarked (c .«missing_controls») f)
-    (gateMarked (c .«extra_controls») f)))
+    (choice (eqb (f .class) 4) (gateMarked (c .«extra_controls») f) false)))

@@ -4,24 +4,24 @@ ghost use Prim.Native.Nat.{_^_, _<_, _≤_};
 ghost use Rattle.basics.specs.Lists.{All};
 ghost use Rattle.circuit.specs.Gates.{gatesOf};
 ghost use Rattle.circuit.specs.Sound.{Sound};
-ghost use Rattle.faults.specs.Classes.{stuckFaults, classFaults};
 ghost use Rattle.marking.specs.Marks.{markAll, levelMarks, gateMarks};
-ghost use Rattle.judge.specs.Judging.{caughtBySome, verdict};
+ghost use Rattle.judge.specs.Judging.{setVerdict};
 ghost use Rattle.judge.specs.Answers.{toldVerdict};
 use crate::Verdict;
 use crate::tallies;
+use circuit::limits::LEVELS;
+use circuit::limits::MOST_GATES;
 use marking::marks;
 
 // The marks of a set's vectors, level by level.
 fn mark_set_levels(
-    at_0: &mut [u32; 1025],
-    at_1: &mut [u32; 1025],
+    at_0: &mut [u32; LEVELS],
+    at_1: &mut [u32; LEVELS],
     lines: u32,
     gates: &[u32],
     vectors: &[u32],
 )
     requires { ⌜ Sound lines (now gates) ⌝ }
-    requires { ⌜ All (λ x. x < 2 ^ lines) (now vectors) ⌝ }
     ensures { λ _. ⌜ (now (at_0 .exit) ≡ markAll (now (at_0 .entry)) (levelMarks lines (gatesOf (now (gates .entry))) 0) (now (vectors .entry)))
         × (now (at_1 .exit) ≡ markAll (now (at_1 .entry)) (levelMarks lines (gatesOf (now (gates .entry))) 1) (now (vectors .entry))) ⌝ }
 {
@@ -34,10 +34,17 @@ fn mark_set_levels(
 }
 
 // The marks of a set's vectors, gate by gate.
-fn mark_set_gates(class: u32, words: &mut [u32; 1024], lines: u32, gates: &[u32], vectors: &[u32])
+fn mark_set_gates(
+    class: u32,
+    words: &mut [u32; MOST_GATES],
+    lines: u32,
+    gates: &[u32],
+    vectors: &[u32],
+)
     requires { ⌜ Sound lines (now gates) ⌝ }
-    requires { ⌜ (2 ≤ class) × ((class ≤ 4) × All (λ x. x < 2 ^ lines) (now vectors)) ⌝ }
-    ensures { λ _. ⌜ now (words .exit) ≡ markAll (now (words .entry)) (gateMarks lines (gatesOf (now (gates .entry))) class) (now (vectors .entry)) ⌝ }
+    requires { ⌜ 2 ≤ class ⌝ }
+    ensures { λ _. ⌜ now (words .exit) ≡ markAll (now (words .entry)) (gateMarks lines (gatesOf (now (gates .entry))) class)
+        (now (vectors .entry)) ⌝ }
 {
     let mut i = 0;
     while i < vectors.len() {
@@ -50,11 +57,10 @@ fn mark_set_gates(class: u32, words: &mut [u32; 1024], lines: u32, gates: &[u32]
 // The verdict on a set for class 1.
 fn judge_levels(lines: u32, gates: &[u32], vectors: &[u32]) -> Verdict
     requires { ⌜ Sound lines (now gates) ⌝ }
-    requires { ⌜ All (λ x. x < 2 ^ lines) (now vectors) ⌝ }
-    ensures { λ r. ⌜ toldVerdict r ≡ verdict (caughtBySome (gatesOf (now (gates .entry))) (now (vectors .entry))) (stuckFaults lines (gatesOf (now (gates .entry)))) ⌝ }
+    ensures { λ r. ⌜ toldVerdict r ≡ setVerdict lines (gatesOf (now (gates .entry))) (now (vectors .entry)) 1 ⌝ }
 {
-    let mut at_0 = [0u32; 1025];
-    let mut at_1 = [0u32; 1025];
+    let mut at_0 = [0u32; LEVELS];
+    let mut at_1 = [0u32; LEVELS];
     mark_set_levels(&mut at_0, &mut at_1, lines, gates, vectors);
     tallies::tally_levels(lines, gates, &at_0, &at_1)
 }
@@ -62,10 +68,10 @@ fn judge_levels(lines: u32, gates: &[u32], vectors: &[u32]) -> Verdict
 // The verdict on a set for a class of gate faults.
 fn judge_gates(class: u32, lines: u32, gates: &[u32], vectors: &[u32]) -> Verdict
     requires { ⌜ Sound lines (now gates) ⌝ }
-    requires { ⌜ (2 ≤ class) × ((class ≤ 4) × All (λ x. x < 2 ^ lines) (now vectors)) ⌝ }
-    ensures { λ r. ⌜ toldVerdict r ≡ verdict (caughtBySome (gatesOf (now (gates .entry))) (now (vectors .entry))) (classFaults lines (gatesOf (now (gates .entry))) class) ⌝ }
+    requires { ⌜ 2 ≤ class ⌝ }
+    ensures { λ r. ⌜ toldVerdict r ≡ setVerdict lines (gatesOf (now (gates .entry))) (now (vectors .entry)) class ⌝ }
 {
-    let mut words = [0u32; 1024];
+    let mut words = [0u32; MOST_GATES];
     mark_set_gates(class, &mut words, lines, gates, vectors);
     tallies::tally_gates(class, lines, gates, &words)
 }
@@ -74,7 +80,7 @@ fn judge_gates(class: u32, lines: u32, gates: &[u32], vectors: &[u32]) -> Verdic
 pub fn judge_class(lines: u32, gates: &[u32], vectors: &[u32], class: u32) -> Verdict
     requires { ⌜ Sound lines (now gates) ⌝ }
     requires { ⌜ (1 ≤ class) × ((class ≤ 4) × All (λ x. x < 2 ^ lines) (now vectors)) ⌝ }
-    ensures { λ r. ⌜ toldVerdict r ≡ verdict (caughtBySome (gatesOf (now (gates .entry))) (now (vectors .entry))) (classFaults lines (gatesOf (now (gates .entry))) class) ⌝ }
+    ensures { λ r. ⌜ toldVerdict r ≡ setVerdict lines (gatesOf (now (gates .entry))) (now (vectors .entry)) class ⌝ }
 {
     if class == 1 {
         return judge_levels(lines, gates, vectors);

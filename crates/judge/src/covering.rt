@@ -1,16 +1,13 @@
 // The verdict on a set by way of a coverage: begun empty, given the vectors in turn, and counted for a class.
 ghost use mathlib.Core.Path.{_≡_};
 ghost use Prim.Native.Nat.{_^_, _<_};
-ghost use mathlib.Core.List.{_++_};
 ghost use Rattle.basics.specs.Lists.{All};
 ghost use Rattle.refusals.specs.Tables.{firstOf};
 ghost use Rattle.refusals.specs.Checks.{fine};
 ghost use Rattle.circuit.specs.Gates.{gatesOf};
-ghost use Rattle.circuit.specs.Rules.{circuitRows, vectorRows};
-ghost use Rattle.faults.specs.Classes.{classFaults};
+ghost use Rattle.circuit.specs.Rules.{circuitRows};
 ghost use Rattle.judge.specs.Coverages.{emptyCoverage, withVector, withAll};
-ghost use Rattle.judge.specs.Judging.{caughtBySome, verdict};
-ghost use Rattle.judge.specs.Rules.{judgeRows};
+ghost use Rattle.judge.specs.Promises.{judgeTells, withVectorTells};
 ghost use Rattle.judge.specs.Answers.{toldVerdict};
 use crate::Verdict;
 use crate::coverage::Coverage;
@@ -19,7 +16,7 @@ use refusals::Checked;
 
 // A coverage with one vector more.
 fn added(coverage: Coverage, lines: u32, gates: &[u32], vector: u32) -> Coverage
-    requires { ⌜ fine ≡ firstOf (circuitRows lines (now gates) ++ vectorRows lines vector) fine ⌝ }
+    requires { ⌜ fine ≡ withVectorTells lines (now gates) vector ⌝ }
     ensures { λ r. ⌜ r ≡ withVector coverage lines (gatesOf (now (gates .entry))) vector ⌝ }
 {
     let covered = coverage.with_vector(lines, gates, vector);
@@ -44,9 +41,7 @@ fn covered_by(lines: u32, gates: &[u32], vectors: &[u32]) -> Coverage
 
 // Judges a set for a class, as `judge` does, through a coverage.
 pub fn cover(lines: u32, gates: &[u32], vectors: &[u32], class: u32) -> Verdict
-    ensures { λ r. ⌜ toldVerdict r ≡ firstOf
-        (judgeRows lines (now (gates .entry)) (now (vectors .entry)) class)
-        (verdict (caughtBySome (gatesOf (now (gates .entry))) (now (vectors .entry))) (classFaults lines (gatesOf (now (gates .entry))) class)) ⌝ }
+    ensures { λ r. ⌜ toldVerdict r ≡ judgeTells lines (now (gates .entry)) (now (vectors .entry)) class ⌝ }
 {
     match rules::check_judge(lines, gates, vectors, class) {
         Checked::Wrong(refusal) => Verdict::Refused(refusal),

@@ -1,10 +1,6 @@
 // Judging: coverage so far, and the verdict on a set of vectors for a class.
 ghost use mathlib.Core.Path.{_≡_};
-ghost use Rattle.refusals.specs.Tables.{firstOf};
-ghost use Rattle.circuit.specs.Gates.{gatesOf};
-ghost use Rattle.faults.specs.Classes.{classFaults};
-ghost use Rattle.judge.specs.Judging.{caughtBySome, verdict};
-ghost use Rattle.judge.specs.Rules.{judgeRows};
+ghost use Rattle.judge.specs.Promises.{judgeTells};
 ghost use Rattle.judge.specs.Answers.{toldVerdict};
 use faults::Fault;
 use refusals::Checked;
@@ -32,9 +28,7 @@ pub enum Verdict {
 
 // Judges a set for a class: how many of its faults some vector catches, how many there are, and the first that none catches.
 pub fn judge(lines: u32, gates: &[u32], vectors: &[u32], class: u32) -> Verdict
-    ensures { λ r. ⌜ toldVerdict r ≡ firstOf
-        (judgeRows lines (now (gates .entry)) (now (vectors .entry)) class)
-        (verdict (caughtBySome (gatesOf (now (gates .entry))) (now (vectors .entry))) (classFaults lines (gatesOf (now (gates .entry))) class)) ⌝ }
+    ensures { λ r. ⌜ toldVerdict r ≡ judgeTells lines (now (gates .entry)) (now (vectors .entry)) class ⌝ }
 {
     match rules::check_judge(lines, gates, vectors, class) {
         Checked::Wrong(refusal) => Verdict::Refused(refusal),

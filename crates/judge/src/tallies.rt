@@ -5,12 +5,14 @@ ghost use Prim.Native.Nat.{_≤_};
 ghost use Rattle.refusals.specs.Tables.Told.{answered};
 ghost use Rattle.circuit.specs.Gates.{gatesOf};
 ghost use Rattle.circuit.specs.Sound.{Sound};
-ghost use Rattle.faults.specs.Classes.{stuckFaults, classFaults};
+ghost use Rattle.faults.specs.Classes.{classFaults};
 ghost use Rattle.marking.specs.Marks.{levelMarked, gateMarked};
 ghost use Rattle.marking.specs.Firsts.{toldFirst};
 ghost use Rattle.judge.specs.Judging.{verdict};
 ghost use Rattle.judge.specs.Answers.{toldVerdict};
 use crate::Verdict;
+use circuit::limits::LEVELS;
+use circuit::limits::MOST_GATES;
 use marking::First;
 use marking::counts;
 
@@ -32,11 +34,12 @@ fn verdict_of(caught: u32, total: u32, first: First) -> Verdict
 pub fn tally_levels<'a>(
     lines: u32,
     gates: &[u32],
-    at_0: &'a [u32; 1025],
-    at_1: &'a [u32; 1025],
+    at_0: &'a [u32; LEVELS],
+    at_1: &'a [u32; LEVELS],
 ) -> Verdict
     requires { ⌜ Sound lines (now gates) ⌝ }
-    ensures { λ r. ⌜ toldVerdict r ≡ verdict (levelMarked (now (at_0 .entry)) (now (at_1 .entry))) (stuckFaults lines (gatesOf (now (gates .entry)))) ⌝ }
+    ensures { λ r. ⌜ toldVerdict r ≡ verdict (levelMarked (now (at_0 .entry)) (now (at_1 .entry)))
+        (classFaults lines (gatesOf (now (gates .entry))) 1) ⌝ }
 {
     let caught = counts::count_levels(lines, gates, at_0, at_1);
     let total = counts::total_levels(lines, gates);
@@ -48,9 +51,9 @@ pub fn tally_levels<'a>(
 }
 
 // The verdict on marks for a class of gate faults.
-pub fn tally_gates(class: u32, lines: u32, gates: &[u32], marks: &[u32; 1024]) -> Verdict
+pub fn tally_gates(class: u32, lines: u32, gates: &[u32], marks: &[u32; MOST_GATES]) -> Verdict
     requires { ⌜ Sound lines (now gates) ⌝ }
-    requires { ⌜ (2 ≤ class) × (class ≤ 4) ⌝ }
+    requires { ⌜ 2 ≤ class ⌝ }
     ensures { λ r. ⌜ toldVerdict r ≡ verdict (gateMarked (now (marks .entry))) (classFaults lines (gatesOf (now (gates .entry))) class) ⌝ }
 {
     let caught = counts::count_gates(class, lines, gates, marks);

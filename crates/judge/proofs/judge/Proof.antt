@@ -19,21 +19,24 @@ enum-told c = search needs
 
 judge-class-requires : tie.Need-judge-class-requires
 judge-class-requires c κs =
-    let a = c .before .before .before .before .before .args in
+    let checked = c .before .before in
+    let a = checked .before .before .before .args in
     let ok = judge-ok (a .lines) (a .gates .now) (a .vectors .now) (a .class)
-    (ap found (sym (c .enum-told .given .1)) ∙ c .before .before .check-judge .ensures) in
+    (ap found (sym (c .enum-told .given .1)) ∙ checked .check-judge .ensures) in
     (ok .set .set .circuit, (ok .class-in .0, (ok .class-in .1, ok .set .vectors)))
 
 returns : tie.Need-returns
 returns c =
-    let a = c .before .before .before .before .before .before .args in
+    let checked = c .before .before .before in
+    let a = checked .before .before .before .args in
     refused-all (judgeRows (a .lines) (a .gates .now) (a .vectors .now) (a .class)) _ _ _
-    (ap found (sym (c .before .refusal .given .1)) ∙ c .before .before .before .check-judge .ensures)
+    (ap found (sym (c .before .refusal .given .1)) ∙ checked .check-judge .ensures)
 
 returns-2 : tie.Need-returns-2
 returns-2 c =
-    let a = c .before .before .before .before .before .before .args in
-    let passed = ap found (sym (c .before .enum-told .given .1)) ∙ c .before .before .before .check-judge .ensures in
+    let checked = c .before .before .before in
+    let a = checked .before .before .before .args in
+    let passed = ap found (sym (c .before .enum-told .given .1)) ∙ checked .check-judge .ensures in
     c .judge-class .ensures ∙ fine-all (judgeRows (a .lines) (a .gates .now) (a .vectors .now) (a .class)) _ passed
 
 pub judge-spec : {M : Type 1} → statement M

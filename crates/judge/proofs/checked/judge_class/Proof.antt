@@ -1,8 +1,4 @@
 -- `judge::checked::judge_class` meets its contract: class 1 goes by levels, the others by gates. Assumes nothing.
-use mathlib.Core.Path.{ap, sym, _∙_}
-use Rattle.circuit.specs.Gates.{gatesOf}
-use Rattle.judge.specs.Judging.{caughtBySome, verdict}
-use Rattle.faults.proofs.ClassLists.{list-one}
 use borrow.Author.Needs.{needs}
 use Rattle.judge.proofs.checked.judge_class.Statement.{statement}
 use Rattle.judge.proofs.checked.judge_class.Tie as tie
@@ -11,10 +7,7 @@ judge-levels-requires : tie.Need-judge-levels-requires
 judge-levels-requires c κs = search needs
 
 returns : tie.Need-returns
-returns c =
-    let a = c .before .before .before .before .args in
-    c .judge-levels .ensures ∙ ap (verdict (caughtBySome (gatesOf (a .gates .now)) (a .vectors .now)))
-    (sym (list-one (a .lines) (gatesOf (a .gates .now)) (a .class) (c .before .if1 .taken)))
+returns c = rw (c .before .if1 .taken) (c .judge-levels .ensures)
 
 judge-gates-requires : tie.Need-judge-gates-requires
 judge-gates-requires c κs = search needs

@@ -13,10 +13,11 @@ tally-gates-requires c κs = search needs
 
 returns : tie.Need-returns
 returns c =
-    let start = c .before .before .before .before .before .before in
+    let marks = c .before .before in
+    let start = marks .before .before .before .before in
     let a = start .args in
-    c .tally-gates .ensures ∙ set-gates (a .lines) (a .gates .now) (a .vectors .now) (start .pre .0) (a .class) _ (start .pre .1 .0)
-    (start .pre .1 .1 .0) (c .before .before .mark-set-gates .ensures)
+    c .tally-gates .ensures
+    ∙ set-gates (a .lines) (a .gates .now) (a .vectors .now) (start .pre .0) (a .class) _ (start .pre .1) (marks .mark-set-gates .ensures)
 
 pub judge-gates-spec : {M : Type 1} → statement M
 judge-gates-spec = tie.close (tie.spec mark-set-gates-requires tally-gates-requires returns)

@@ -1,7 +1,5 @@
 -- `judge::checked::judge_levels` meets its contract: the words that its own marks make say what some vector catches. Assumes nothing.
-use mathlib.Core.Path.{refl, _∙_}
-use Rattle.circuit.specs.Gates.{gatesOf}
-use Rattle.faults.proofs.ClassLists.{list-one}
+use mathlib.Core.Path.{_∙_}
 use Rattle.judge.proofs.SetLaws.{set-levels}
 use borrow.Author.Needs.{needs}
 use Rattle.judge.proofs.checked.judge_levels.Statement.{statement}
@@ -15,11 +13,12 @@ tally-levels-requires c κs = search needs
 
 returns : tie.Need-returns
 returns c =
-    let start = c .before .before .before .before .before .before .before .before in
+    let marks = c .before .before .before in
+    let start = marks .before .before .before .before .before in
     let a = start .args in
-    c .tally-levels .ensures ∙ rw (← list-one (a .lines) (gatesOf (a .gates .now)) 1 refl)
-    (set-levels (a .lines) (a .gates .now) (a .vectors .now) (start .pre .0) _ _ (c .before .before .before .mark-set-levels .ensures .0)
-    (c .before .before .before .mark-set-levels .ensures .1))
+    c .tally-levels .ensures
+    ∙ set-levels (a .lines) (a .gates .now) (a .vectors .now) (start .pre) _ _
+    (marks .mark-set-levels .ensures .0) (marks .mark-set-levels .ensures .1)
 
 pub judge-levels-spec : {M : Type 1} → statement M
 judge-levels-spec = tie.close (tie.spec mark-set-levels-requires tally-levels-requires returns)

@@ -1,9 +1,9 @@
 -- `judge::checked::mark_set_gates` meets its contract: each turn adds the marks of one vector, and those that are left add the rest. Assumes nothing.
-use Prim.Native.Nat.{_+_, _-_, _^_, _<_}
+use Prim.Native.Nat.{_+_, _-_}
 use mathlib.Core.Path.{_≡_, refl, sym, ap, _∙_}
 use native.Mathlib.Omega.{arith}
 use lib.ListN.{length, drop}
-use Rattle.basics.proofs.All.{all-at}
+use borrow.Author.Needs.{needs}
 use Rattle.circuit.specs.Gates.{gatesOf}
 use Rattle.marking.specs.Marks.{markAll, gateMarks}
 use Rattle.judge.proofs.SetLaws.{mark-all-more, mark-all-end}
@@ -27,17 +27,7 @@ shared-slice-read-input : tie.Need-shared-slice-read-input Inv-loop μ-loop
 shared-slice-read-input c = omega arith
 
 mark-gates-requires : tie.Need-mark-gates-requires Inv-loop μ-loop
-mark-gates-requires c κs =
-    let l = c .before .before .before in
-    let start = l .before .before .before in
-    let a = start .args in
-    let gs = gatesOf (a .gates .now) in (
-      start .pre .0,
-      (
-        start .pre .1 .0,
-        (start .pre .1 .1 .0, all-at (λ x. x < 2 ^ (a .lines)) (a .vectors .now) (l .loop .i) 0 (omega arith) (start .pre .1 .1 .1)),
-      ),
-    )
+mark-gates-requires c κs = search needs
 
 add-i : tie.Need-add-i Inv-loop μ-loop
 add-i c = omega arith
@@ -47,20 +37,20 @@ loop-less c = omega arith
 
 loop-again : tie.Need-loop-again Inv-loop μ-loop
 loop-again c =
-    let l = c .before .before .before .before in
-    let start = l .before .before .before in
-    let a = start .args in
-    let gs = gatesOf (a .gates .now) in
-    l .loop .inv ∙ mark-all-more (gateMarks (a .lines) gs (a .class)) (l .loop .words) (a .vectors .now) (l .loop .i) (omega arith)
-    ∙ ap (λ w. markAll w (gateMarks (a .lines) gs (a .class)) (drop (l .loop .i + 1) (a .vectors .now))) (sym (c .mark-gates .ensures))
+    let turn = c .before .before .before in
+    let l = turn .before in
+    let a = l .before .before .before .args in
+    let marks = gateMarks (a .lines) (gatesOf (a .gates .now)) (a .class) in
+    let i = l .loop .i in
+    l .loop .inv ∙ mark-all-more marks (l .loop .words) (a .vectors .now) i (turn .loop-test .taken)
+    ∙ ap (λ w. markAll w marks (drop (i + 1) (a .vectors .now))) (sym (c .mark-gates .ensures))
 
 returns : tie.Need-returns Inv-loop μ-loop
 returns c =
     let l = c .before in
-    let start = l .before .before .before in
-    let a = start .args in
-    let gs = gatesOf (a .gates .now) in
-    sym (l .loop .inv ∙ mark-all-end (gateMarks (a .lines) gs (a .class)) (l .loop .words) (a .vectors .now) (l .loop .i) (omega arith))
+    let a = l .before .before .before .args in
+    let marks = gateMarks (a .lines) (gatesOf (a .gates .now)) (a .class) in
+    sym (l .loop .inv ∙ mark-all-end marks (l .loop .words) (a .vectors .now) (l .loop .i) (c .loop-test .left))
 
 pub mark-set-gates-spec : {M : Type 1} → statement M
 mark-set-gates-spec =

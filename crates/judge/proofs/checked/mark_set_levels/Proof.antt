@@ -1,10 +1,10 @@
 -- `judge::checked::mark_set_levels` meets its contract: each turn adds the marks of one vector, and those that are left add the rest. Assumes
 -- nothing.
-use Prim.Native.Nat.{_+_, _-_, _^_, _<_}
+use Prim.Native.Nat.{_+_, _-_}
 use mathlib.Core.Path.{_≡_, refl, sym, ap, _∙_}
 use native.Mathlib.Omega.{arith}
 use lib.ListN.{length, drop}
-use Rattle.basics.proofs.All.{all-at}
+use borrow.Author.Needs.{needs}
 use Rattle.circuit.specs.Gates.{gatesOf}
 use Rattle.marking.specs.Marks.{markAll, levelMarks}
 use Rattle.judge.proofs.SetLaws.{mark-all-more, mark-all-end}
@@ -29,12 +29,7 @@ shared-slice-read-vector : tie.Need-shared-slice-read-vector Inv-loop μ-loop
 shared-slice-read-vector c = omega arith
 
 mark-levels-requires : tie.Need-mark-levels-requires Inv-loop μ-loop
-mark-levels-requires c κs =
-    let l = c .before .before .before .before in
-    let start = l .before .before .before in
-    let a = start .args in
-    let gs = gatesOf (a .gates .now) in
-    (start .pre .0, all-at (λ x. x < 2 ^ (a .lines)) (a .vectors .now) (l .loop .i) 0 (omega arith) (start .pre .1))
+mark-levels-requires c κs = search needs
 
 add-i : tie.Need-add-i Inv-loop μ-loop
 add-i c = omega arith
@@ -44,24 +39,24 @@ loop-less c = omega arith
 
 loop-again : tie.Need-loop-again Inv-loop μ-loop
 loop-again c =
-    let l = c .before .before .before .before .before in
-    let start = l .before .before .before in
-    let a = start .args in
-    let gs = gatesOf (a .gates .now) in (
-      l .loop .inv .0 ∙ mark-all-more (levelMarks (a .lines) gs 0) (l .loop .at-0) (a .vectors .now) (l .loop .i) (omega arith)
-          ∙ ap (λ w. markAll w (levelMarks (a .lines) gs 0) (drop (l .loop .i + 1) (a .vectors .now))) (sym (c .mark-levels .ensures .0)),
-      l .loop .inv .1 ∙ mark-all-more (levelMarks (a .lines) gs 1) (l .loop .at-1) (a .vectors .now) (l .loop .i) (omega arith)
-          ∙ ap (λ w. markAll w (levelMarks (a .lines) gs 1) (drop (l .loop .i + 1) (a .vectors .now))) (sym (c .mark-levels .ensures .1)),
+    let turn = c .before .before .before .before in
+    let l = turn .before in
+    let a = l .before .before .before .args in
+    let gs = gatesOf (a .gates .now) in
+    let i = l .loop .i in (
+      l .loop .inv .0 ∙ mark-all-more (levelMarks (a .lines) gs 0) (l .loop .at-0) (a .vectors .now) i (turn .loop-test .taken)
+          ∙ ap (λ w. markAll w (levelMarks (a .lines) gs 0) (drop (i + 1) (a .vectors .now))) (sym (c .mark-levels .ensures .0)),
+      l .loop .inv .1 ∙ mark-all-more (levelMarks (a .lines) gs 1) (l .loop .at-1) (a .vectors .now) i (turn .loop-test .taken)
+          ∙ ap (λ w. markAll w (levelMarks (a .lines) gs 1) (drop (i + 1) (a .vectors .now))) (sym (c .mark-levels .ensures .1)),
     )
 
 returns : tie.Need-returns Inv-loop μ-loop
 returns c =
     let l = c .before in
-    let start = l .before .before .before in
-    let a = start .args in
+    let a = l .before .before .before .args in
     let gs = gatesOf (a .gates .now) in (
-      sym (l .loop .inv .0 ∙ mark-all-end (levelMarks (a .lines) gs 0) (l .loop .at-0) (a .vectors .now) (l .loop .i) (omega arith)),
-      sym (l .loop .inv .1 ∙ mark-all-end (levelMarks (a .lines) gs 1) (l .loop .at-1) (a .vectors .now) (l .loop .i) (omega arith)),
+      sym (l .loop .inv .0 ∙ mark-all-end (levelMarks (a .lines) gs 0) (l .loop .at-0) (a .vectors .now) (l .loop .i) (c .loop-test .left)),
+      sym (l .loop .inv .1 ∙ mark-all-end (levelMarks (a .lines) gs 1) (l .loop .at-1) (a .vectors .now) (l .loop .i) (c .loop-test .left)),
     )
 
 pub mark-set-levels-spec : {M : Type 1} → statement M

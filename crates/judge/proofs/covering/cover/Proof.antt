@@ -1,14 +1,11 @@
 -- `judge::covering::cover` meets its contract: the check is the whole table, and the coverage of a set gives the judge's verdict. Assumes nothing.
 use mathlib.Core.Path.{ap, sym, _∙_}
 use Rattle.refusals.specs.Checks.{found}
-use Rattle.refusals.proofs.Tables.{refused-all, fine-all}
-use Rattle.circuit.specs.Gates.{gatesOf}
-use Rattle.faults.specs.Classes.{classFaults}
-use Rattle.judge.specs.Coverages.{isMarked}
-use Rattle.judge.specs.Judging.{verdict}
-use Rattle.judge.specs.Rules.{judgeRows, countRows}
-use Rattle.judge.proofs.RuleLaws.{judge-ok, set-circuit, count-passes}
-use Rattle.judge.proofs.Theorems.{coverage-is-judge}
+use Rattle.refusals.proofs.Tables.{refused-all}
+use Rattle.judge.specs.Promises.{countTells}
+use Rattle.judge.specs.Rules.{judgeRows}
+use Rattle.judge.proofs.RuleLaws.{judge-ok, set-circuit}
+use Rattle.judge.proofs.CoverageTheorems.{count-is-judge}
 use borrow.Author.Needs.{needs}
 use Rattle.judge.proofs.covering.cover.Statement.{statement}
 use Rattle.judge.proofs.covering.cover.Tie as tie
@@ -24,8 +21,9 @@ enum-told c = search needs
 
 covered-by-requires : tie.Need-covered-by-requires
 covered-by-requires c κs =
-    let a = c .before .before .before .before .before .args in
-    let passed = ap found (sym (c .enum-told .given .1)) ∙ c .before .before .check-judge .ensures in (
+    let checked = c .before .before in
+    let a = checked .before .before .before .args in
+    let passed = ap found (sym (c .enum-told .given .1)) ∙ checked .check-judge .ensures in (
       set-circuit (a .lines) (a .gates .now) (a .vectors .now) (a .class) passed,
       judge-ok (a .lines) (a .gates .now) (a .vectors .now) (a .class) passed .set .vectors,
     )
@@ -35,24 +33,19 @@ count-requires c κs = search needs
 
 returns : tie.Need-returns
 returns c =
-    let a = c .before .before .before .before .before .before .args in
+    let checked = c .before .before .before in
+    let a = checked .before .before .before .args in
     refused-all (judgeRows (a .lines) (a .gates .now) (a .vectors .now) (a .class)) _ _ _
-    (ap found (sym (c .before .refusal .given .1)) ∙ c .before .before .before .check-judge .ensures)
+    (ap found (sym (c .before .refusal .given .1)) ∙ checked .check-judge .ensures)
 
 returns-2 : tie.Need-returns-2
 returns-2 c =
-    let e = c .before .before in
-    let a = e .before .before .before .before .before .args in
-    let n = a .lines in
-    let words = a .gates .now in
-    let xs = a .vectors .now in
-    let class = a .class in
-    let passed = ap found (sym (e .enum-told .given .1)) ∙ e .before .before .check-judge .ensures in
-    let ok = judge-ok n words xs class passed in
-    c .count .ensures ∙ sym (fine-all (countRows n words class) _ (count-passes n words xs class passed))
-    ∙ ap (λ m. verdict (isMarked m) (classFaults n (gatesOf words) class)) (c .before .covered-by .ensures)
-    ∙ coverage-is-judge n words xs class (ok .set .set .circuit) (ok .class-in .0) (ok .class-in .1)
-    ∙ fine-all (judgeRows n words xs class) _ passed
+    let told = c .before .before in
+    let checked = told .before .before in
+    let a = checked .before .before .before .args in
+    let passed = ap found (sym (told .enum-told .given .1)) ∙ checked .check-judge .ensures in
+    c .count .ensures ∙ ap (λ d. countTells d (a .lines) (a .gates .now) (a .class)) (c .before .covered-by .ensures)
+    ∙ count-is-judge (a .lines) (a .gates .now) (a .vectors .now) (a .class) passed
 
 pub cover-spec : {M : Type 1} → statement M
 cover-spec =

@@ -35,11 +35,12 @@ shared-slice-read-vector c = omega arith
 
 added-requires : tie.Need-added-requires Inv-loop μ-loop
 added-requires c κs =
-    let l = c .before .before in
+    let turn = c .before in
+    let l = turn .before in
     let start = l .before .before .before .before in
     let a = start .args in
     vector-passes (a .lines) (a .gates .now) (getD (a .vectors .now) (l .loop .i) 0) (start .pre .0)
-    (all-at (λ x. x < 2 ^ (a .lines)) (a .vectors .now) (l .loop .i) 0 (omega arith) (start .pre .1))
+    (all-at (λ x. x < 2 ^ (a .lines)) (a .vectors .now) (l .loop .i) 0 (turn .loop-test .taken) (start .pre .1))
 
 add-i : tie.Need-add-i Inv-loop μ-loop
 add-i c = omega arith
@@ -49,17 +50,18 @@ loop-less c = omega arith
 
 loop-again : tie.Need-loop-again Inv-loop μ-loop
 loop-again c =
-    let l = c .before .before .before in
+    let turn = c .before .before in
+    let l = turn .before in
     let a = l .before .before .before .before .args in
     let gs = gatesOf (a .gates .now) in
-    l .loop .inv ∙ with-all-more (a .lines) gs (l .loop .coverage) (a .vectors .now) (l .loop .i) (omega arith)
-    ∙ ap (λ e. withAll e (a .lines) gs (drop (l .loop .i + 1) (a .vectors .now))) (sym (c .added .ensures))
+    l .loop .inv ∙ with-all-more (a .lines) gs (l .loop .coverage) (a .vectors .now) (l .loop .i) (turn .loop-test .taken)
+    ∙ ap (λ d. withAll d (a .lines) gs (drop (l .loop .i + 1) (a .vectors .now))) (sym (c .added .ensures))
 
 returns : tie.Need-returns Inv-loop μ-loop
 returns c =
     let l = c .before in
     let a = l .before .before .before .before .args in
-    sym (l .loop .inv ∙ with-all-end (a .lines) (gatesOf (a .gates .now)) (l .loop .coverage) (a .vectors .now) (l .loop .i) (omega arith))
+    sym (l .loop .inv ∙ with-all-end (a .lines) (gatesOf (a .gates .now)) (l .loop .coverage) (a .vectors .now) (l .loop .i) (c .loop-test .left))
 
 pub covered-by-spec : {M : Type 1} → statement M
 covered-by-spec =

@@ -23,15 +23,17 @@ check-class-requires c κs = search needs
 returns : tie.Need-returns
 unfolding countRows
 returns c =
-    let a = c .before .before .before .before .before .args in
+    let checked = c .before .before .before in
+    let a = checked .before .before .args in
     refused-on (circuitRows (a .lines) (a .gates .now)) (classRows (a .class)) fine _ _
-    (ap found (sym (c .before .refusal .given .1)) ∙ c .before .before .before .check-circuit .ensures)
+    (ap found (sym (c .before .refusal .given .1)) ∙ checked .check-circuit .ensures)
 
 returns-2 : tie.Need-returns-2
 unfolding countRows
 returns-2 c =
-    let a = c .before .before .before .before .before .args in
-    let passed = ap found (sym (c .before .enum-told .given .1)) ∙ c .before .before .before .check-circuit .ensures in
+    let checked = c .before .before .before in
+    let a = checked .before .before .args in
+    let passed = ap found (sym (c .before .enum-told .given .1)) ∙ checked .check-circuit .ensures in
     c .check-class .ensures ∙ sym (fine-on (circuitRows (a .lines) (a .gates .now)) (classRows (a .class)) fine passed)
 
 pub check-count-spec : {M : Type 1} → statement M

@@ -23,15 +23,17 @@ check-class-requires c κs = search needs
 returns : tie.Need-returns
 unfolding judgeRows
 returns c =
-    let a = c .before .before .before .before .before .before .args in
+    let checked = c .before .before .before in
+    let a = checked .before .before .before .args in
     refused-on (setRows (a .lines) (a .gates .now) (a .vectors .now)) (classRows (a .class)) fine _ _
-    (ap found (sym (c .before .refusal .given .1)) ∙ c .before .before .before .check-set .ensures)
+    (ap found (sym (c .before .refusal .given .1)) ∙ checked .check-set .ensures)
 
 returns-2 : tie.Need-returns-2
 unfolding judgeRows
 returns-2 c =
-    let a = c .before .before .before .before .before .before .args in
-    let passed = ap found (sym (c .before .enum-told .given .1)) ∙ c .before .before .before .check-set .ensures in
+    let checked = c .before .before .before in
+    let a = checked .before .before .before .args in
+    let passed = ap found (sym (c .before .enum-told .given .1)) ∙ checked .check-set .ensures in
     c .check-class .ensures ∙ sym (fine-on (setRows (a .lines) (a .gates .now) (a .vectors .now)) (classRows (a .class)) fine passed)
 
 pub check-judge-spec : {M : Type 1} → statement M

@@ -20,8 +20,10 @@ verdict-of-requires c κs = search needs
 returns : tie.Need-returns
 unfolding verdict
 returns c =
-    c .verdict-of .ensures
-    ∙ rw (c .before .before .before .count-gates .ensures, c .before .before .total-gates .ensures, c .before .first-gates .ensures)
+    let first = c .before in
+    let total = first .before in
+    let count = total .before in
+    c .verdict-of .ensures ∙ rw (count .count-gates .ensures, total .total-gates .ensures, first .first-gates .ensures)
 
 pub tally-gates-spec : {M : Type 1} → statement M
 tally-gates-spec =

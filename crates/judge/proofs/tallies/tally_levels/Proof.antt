@@ -1,6 +1,8 @@
 -- `judge::tallies::tally_levels` meets its contract: a verdict is the count, the total and the first fault that is left. Assumes nothing.
-use mathlib.Core.Path.{_∙_}
+use mathlib.Core.Path.{refl, _∙_}
 use borrow.Author.Needs.{needs}
+use Rattle.circuit.specs.Gates.{gatesOf}
+use Rattle.faults.proofs.ClassLists.{list-one}
 use Rattle.judge.specs.Judging.{verdict}
 use Rattle.judge.proofs.tallies.tally_levels.Statement.{statement}
 use Rattle.judge.proofs.tallies.tally_levels.Tie as tie
@@ -20,8 +22,13 @@ verdict-of-requires c κs = search needs
 returns : tie.Need-returns
 unfolding verdict
 returns c =
+    let first = c .before in
+    let total = first .before in
+    let count = total .before in
+    let a = count .before .before .args in
+    let class = list-one (a .lines) (gatesOf (a .gates .now)) 1 refl in
     c .verdict-of .ensures
-    ∙ rw (c .before .before .before .count-levels .ensures, c .before .before .total-levels .ensures, c .before .first-levels .ensures)
+    ∙ rw (count .count-levels .ensures, total .total-levels .ensures, first .first-levels .ensures, class)
 
 pub tally-levels-spec : {M : Type 1} → statement M
 tally-levels-spec =

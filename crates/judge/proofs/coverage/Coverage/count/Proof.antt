@@ -19,20 +19,22 @@ enum-told c = search needs
 
 counted-requires : tie.Need-counted-requires
 counted-requires c κs =
-    let a = c .before .before .before .before .args in
-    let ok = count-ok (a .lines) (a .gates .now) (a .class) (ap found (sym (c .enum-told .given .1)) ∙ c .before .before .check-count .ensures) in
-    (ok .circuit, ok .class-in)
+    let checked = c .before .before in
+    let a = checked .before .before .args in
+    count-ok (a .lines) (a .gates .now) (a .class) (ap found (sym (c .enum-told .given .1)) ∙ checked .check-count .ensures) .circuit
 
 returns : tie.Need-returns
 returns c =
-    let a = c .before .before .before .before .before .args in
+    let checked = c .before .before .before in
+    let a = checked .before .before .args in
     refused-all (countRows (a .lines) (a .gates .now) (a .class)) _ _ _
-    (ap found (sym (c .before .refusal .given .1)) ∙ c .before .before .before .check-count .ensures)
+    (ap found (sym (c .before .refusal .given .1)) ∙ checked .check-count .ensures)
 
 returns-2 : tie.Need-returns-2
 returns-2 c =
-    let a = c .before .before .before .before .before .args in
-    let passed = ap found (sym (c .before .enum-told .given .1)) ∙ c .before .before .before .check-count .ensures in
+    let checked = c .before .before .before in
+    let a = checked .before .before .args in
+    let passed = ap found (sym (c .before .enum-told .given .1)) ∙ checked .check-count .ensures in
     c .counted .ensures ∙ fine-all (countRows (a .lines) (a .gates .now) (a .class)) _ passed
 
 pub count-spec : {M : Type 1} → statement M

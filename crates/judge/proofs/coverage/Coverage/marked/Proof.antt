@@ -7,24 +7,27 @@ use Rattle.judge.proofs.coverage.Coverage.marked.Tie as tie
 mark-levels-requires : tie.Need-mark-levels-requires
 mark-levels-requires c κs = search needs
 
-mark-missing-gates-requires : tie.Need-mark-missing-gates-requires
-mark-missing-gates-requires c κs = search needs
+mark-gates-requires : tie.Need-mark-gates-requires
+mark-gates-requires c κs = search needs
 
-mark-missing-controls-requires : tie.Need-mark-missing-controls-requires
-mark-missing-controls-requires c κs = search needs
+mark-gates-requires-2 : tie.Need-mark-gates-requires-2
+mark-gates-requires-2 c κs = search needs
 
-mark-extra-controls-requires : tie.Need-mark-extra-controls-requires
-mark-extra-controls-requires c κs = search needs
+mark-gates-requires-3 : tie.Need-mark-gates-requires-3
+mark-gates-requires-3 c κs = search needs
 
 returns : tie.Need-returns
 unfolding withVector
 returns c =
+    let controls = c .before .before in
+    let gates = controls .before .before in
+    let levels = gates .before .before in
     rw (
-      c .before .before .before .before .before .before .mark-levels .ensures .0,
-      c .before .before .before .before .before .before .mark-levels .ensures .1,
-      c .before .before .before .before .mark-missing-gates .ensures,
-      c .before .before .mark-missing-controls .ensures,
-      c .mark-extra-controls .ensures,
+      levels .mark-levels .ensures .0,
+      levels .mark-levels .ensures .1,
+      gates .mark-gates .ensures,
+      controls .mark-gates2 .ensures,
+      c .mark-gates3 .ensures,
     )
 
 pub marked-spec : {M : Type 1} → statement M
@@ -32,7 +35,7 @@ marked-spec =
     tie.close
     (tie.spec
     mark-levels-requires
-    mark-missing-gates-requires
-    mark-missing-controls-requires
-    mark-extra-controls-requires
+    mark-gates-requires
+    mark-gates-requires-2
+    mark-gates-requires-3
     returns)
