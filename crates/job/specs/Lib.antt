@@ -3,4 +3,5 @@ pub mod Image
 pub mod Rules
 pub mod Parts
 pub mod Answers
+pub mod Wanted
 pub mod Promises

@@ -10,6 +10,7 @@ use refusals::Refusal;
 mod bytes;
 mod reading;
 mod rules;
+pub mod wanted;
 mod writing;
 
 // A job that was read: its lines, the classes wanted, its numbers of gates and vectors.
