@@ -28,35 +28,37 @@ use Rattle.basics.proofs.PutLaws.{sets-append, sets-front}
 use Rattle.job.proofs.ByteLaws.{length-words}
 use Rattle.job.proofs.ImageLaws.{gates-front, vectors-front}
 use Rattle.job.specs.Parts.{contentRowsIn, badRoom}
+use Rattle.job.specs.Wanted.{wanted}
 use Rattle.job.proofs.RuleLaws.{read-ok, header-ok}
-use Rattle.report_text.specs.Lines.{field, line}
-use Rattle.report_text.specs.Report.{classText, wanted, jobText, refusedText, textOf, reportText}
+use Rattle.report_text.specs.Lines.{spaced, line}
+use Rattle.report_text.specs.Report.{classText, jobText, refusedText, textOf, reportText}
 use Rattle.report_text.specs.Rules.{reportRows}
+use Rattle.report_text.specs.Promises.{reportTells, roomAfterReport}
 use Rattle.report_text.specs.Parts.{okText, numbersLine}
 use Rattle.report_text.proofs.LengthLaws.{job-fits, refused-fits}
 
 -- ---- the text of a refused job, and of any other
 
-bare : (letter : ℕ) (numbers : List ℕ) → numbersLine letter numbers false ≡ line letter (each field numbers)
+bare : (letter : ℕ) (numbers : List ℕ) → numbersLine letter numbers false ≡ line letter (each spaced numbers)
 unfolding numbersLine okText
-bare letter numbers = ap (line letter) (append-nil (each field numbers))
+bare letter numbers = ap (line letter) (append-nil (each spaced numbers))
 
 pub refused-line : (number place : ℕ) → numbersLine 69 (number ∷ place ∷ []) false ≡ refusedText number place
 unfolding refusedText
 refused-line number place = bare 69 (number ∷ place ∷ [])
 
 pub job-line : (n : ℕ) (words xs : List ℕ)
-    → numbersLine 74 (n ∷ length words / 3 ∷ length xs ∷ []) false ≡ line 74 (each field (n ∷ length (gatesOf words) ∷ length xs ∷ []))
+    → numbersLine 74 (n ∷ length words / 3 ∷ length xs ∷ []) false ≡ line 74 (each spaced (n ∷ length (gatesOf words) ∷ length xs ∷ []))
 job-line n words xs = rw (gates-count words) (bare 74 (n ∷ length words / 3 ∷ length xs ∷ []))
 
 pub job-put : (text : List ℕ) (n classes : ℕ) (words xs : List ℕ) (end : ℕ)
-    → end ≡ 0 + length (line 74 (each field (n ∷ length (gatesOf words) ∷ length xs ∷ [])))
-    → sets (sets text 0 (line 74 (each field (n ∷ length (gatesOf words) ∷ length xs ∷ [])))) end
+    → end ≡ 0 + length (line 74 (each spaced (n ∷ length (gatesOf words) ∷ length xs ∷ [])))
+    → sets (sets text 0 (line 74 (each spaced (n ∷ length (gatesOf words) ∷ length xs ∷ [])))) end
     (each (classText n (gatesOf words) xs) (wanted classes))
     ≡ sets text 0 (jobText n classes words xs)
 unfolding jobText
 job-put text n classes words xs end e =
-    sets-append text 0 end (line 74 (each field (n ∷ length (gatesOf words) ∷ length xs ∷ [])))
+    sets-append text 0 end (line 74 (each spaced (n ∷ length (gatesOf words) ∷ length xs ∷ [])))
     (each (classText n (gatesOf words) xs) (wanted classes)) (sym e)
 
 -- ---- what a reading tells
@@ -160,18 +162,12 @@ text-end bytes last end e f =
     )
 
 module _ (bytes out : List ℕ) (end : ℕ) (is : end ≡ length (reportText bytes)) where
-  abbrev rows : List Row
-  rows = reportRows bytes (length out)
-
-  abbrev made : List ℕ
-  made = reportText bytes ++ drop (length (reportText bytes)) out
-
-  pub report-short : length out < end → (refused 10 0 ≡ firstOf rows (answered (length (reportText bytes) ∷ []))) × (out ≡ after rows made out)
+  pub report-short : length out < end → (refused 10 0 ≡ reportTells bytes out) × (out ≡ roomAfterReport bytes out)
   unfolding reportRows
   report-short h = rw (lt-ltb (length out) (length (reportText bytes)) (omega arith)) (refl, refl)
 
   pub report-put : end ≤ length out → (last : List ℕ) → last ≡ sets out 0 (reportText bytes)
-      → (answered (end ∷ []) ≡ firstOf rows (answered (length (reportText bytes) ∷ []))) × (last ≡ after rows made out)
+      → (answered (end ∷ []) ≡ reportTells bytes out) × (last ≡ roomAfterReport bytes out)
   unfolding reportRows
   report-put h last e =
       rw (le-ltb (length out) (length (reportText bytes)) (omega arith))
@@ -180,10 +176,9 @@ module _ (bytes out : List ℕ) (end : ℕ) (is : end ≡ length (reportText byt
 -- ---- what callers may lean on
 
 -- a report that is told has at most 100 bytes
-pub told-fits : (bytes : List ℕ) (room end : ℕ) → answered (end ∷ []) ≡ firstOf (reportRows bytes room) (answered (length (reportText bytes) ∷ []))
-    → end ≤ 100
+pub told-fits : (bytes room : List ℕ) (end : ℕ) → answered (end ∷ []) ≡ reportTells bytes room → end ≤ 100
 told-fits bytes room end e =
-    let w = answered-fine (reportRows bytes room) (end ∷ []) (length (reportText bytes) ∷ []) e .0 in
+    let w = answered-fine (reportRows bytes (length room)) (end ∷ []) (length (reportText bytes) ∷ []) e .0 in
     let same : end ≡ length (reportText bytes) = cc in
     omega (arith, same, report-fits bytes)
 

@@ -1,15 +1,12 @@
 // The report: from any bytes to the text of their verdict.
 ghost use mathlib.Core.Path.{_≡_};
-ghost use mathlib.Core.List.{[], _∷_, _++_};
 ghost use Prim.Native.Nat.{_^_, _<_, _≤_};
-ghost use lib.ListN.{length, drop};
+ghost use lib.ListN.{length};
 ghost use lib.Seq.{sets};
-ghost use Rattle.refusals.specs.Tables.{firstOf, after};
-ghost use Rattle.refusals.specs.Tables.Told.{answered};
 ghost use Rattle.basics.specs.Lists.{All};
 ghost use Rattle.circuit.specs.Sound.{Sound};
 ghost use Rattle.report_text.specs.Report.{reportText, refusedText, jobText};
-ghost use Rattle.report_text.specs.Rules.{reportRows};
+ghost use Rattle.report_text.specs.Promises.{reportTells, roomAfterReport};
 ghost use Rattle.report_text.specs.Answers.{toldReported};
 use crate::classes::put_classes;
 use crate::lines::put_line;
@@ -28,13 +25,8 @@ pub enum Reported {
 
 // The text of a job's report into the front of some bytes. A refused call changes nothing; a refused job is a text.
 pub fn report(bytes: &[u8], out: &mut [u8]) -> Reported
-    ensures { λ r. ⌜ (toldReported r ≡ firstOf
-        (reportRows (now (bytes .entry)) (length (now (out .entry))))
-        (answered (length (reportText (now (bytes .entry))) ∷ [])))
-        × (now (out .exit) ≡ after
-        (reportRows (now (bytes .entry)) (length (now (out .entry))))
-        (reportText (now (bytes .entry)) ++ drop (length (reportText (now (bytes .entry)))) (now (out .entry)))
-        (now (out .entry))) ⌝ }
+    ensures { λ r. ⌜ (toldReported r ≡ reportTells (now (bytes .entry)) (now (out .entry)))
+        × (now (out .exit) ≡ roomAfterReport (now (bytes .entry)) (now (out .entry))) ⌝ }
 {
     let mut text = [0u8; 100];
     let end = put_report(bytes, &mut text);

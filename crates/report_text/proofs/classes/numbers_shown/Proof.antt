@@ -1,8 +1,8 @@
--- `report_text::classes::numbers_of` meets its contract: a number for each class. Assumes nothing.
+-- `report_text::classes::numbers_shown` meets its contract: a number for each class, and one for no class. Assumes nothing.
 use native.Mathlib.Omega.{arith}
-use Rattle.report_text.proofs.ClassLaws.{numbers-S, numbers-M, numbers-CX}
-use Rattle.report_text.proofs.classes.numbers_of.Statement.{statement}
-use Rattle.report_text.proofs.classes.numbers_of.Tie as tie
+use Rattle.report_text.proofs.ClassLaws.{numbers-S, numbers-M, numbers-C, numbers-X, numbers-none}
+use Rattle.report_text.proofs.classes.numbers_shown.Statement.{statement}
+use Rattle.report_text.proofs.classes.numbers_shown.Tie as tie
 
 returns : tie.Need-returns
 returns c = numbers-S _ (omega arith)
@@ -11,7 +11,13 @@ returns-2 : tie.Need-returns-2
 returns-2 c = numbers-M _ (omega arith)
 
 returns-3 : tie.Need-returns-3
-returns-3 c = numbers-CX _ (λ e. omega arith) (λ e. omega arith)
+returns-3 c = numbers-C _ (omega arith)
 
-pub numbers-of-spec : {M : Type 1} → statement M
-numbers-of-spec = tie.close (tie.spec returns returns-2 returns-3)
+returns-4 : tie.Need-returns-4
+returns-4 c = numbers-X _ (omega arith)
+
+returns-5 : tie.Need-returns-5
+returns-5 c = numbers-none _ (λ e. omega arith) (λ e. omega arith) (λ e. omega arith) (λ e. omega arith)
+
+pub numbers-shown-spec : {M : Type 1} → statement M
+numbers-shown-spec = tie.close (tie.spec returns returns-2 returns-3 returns-4 returns-5)

@@ -6,7 +6,8 @@ use lib.ListN.{length}
 use lib.Seq.{sets}
 use Rattle.basics.specs.Lists.{upFrom, each}
 use Rattle.circuit.specs.Gates.{gatesOf}
-use Rattle.report_text.specs.Report.{classText, wanted}
+use Rattle.job.specs.Wanted.{wanted}
+use Rattle.report_text.specs.Report.{classText}
 use Rattle.report_text.specs.Parts.{wantedText}
 use Rattle.report_text.proofs.ClassLaws.{wanted-text, turn-room, turn-put, turn-end}
 use Rattle.report_text.proofs.classes.put_classes.Statement.{statement}

@@ -8,19 +8,19 @@ use borrow.Author.Needs.{needs}
 use Rattle.report_text.proofs.classes.put_left.Statement.{statement}
 use Rattle.report_text.proofs.classes.put_left.Tie as tie
 
-numbers-of-requires : tie.Need-numbers-of-requires
-numbers-of-requires c κs = search needs
+numbers-shown-requires : tie.Need-numbers-shown-requires
+numbers-shown-requires c κs = search needs
 
 letter-of-requires : tie.Need-letter-of-requires
 letter-of-requires c κs = search needs
 
 array-share-prefix-numbers : tie.Need-array-share-prefix-numbers
-array-share-prefix-numbers c = rw (c .before .before .numbers-of .ensures) (numbers-most (c .before .before .before .before .args .class))
+array-share-prefix-numbers c = rw (c .before .before .numbers-shown .ensures) (numbers-most (c .before .before .before .before .args .class))
 
 slice-aggregate-put-line : tie.Need-slice-aggregate-put-line
 slice-aggregate-put-line c =
     let a = c .before .before .before .before .before .args in
-    let count = c .before .before .before .numbers-of in
+    let count = c .before .before .before .numbers-shown in
     sym (length-take-le (count .result) (a .caught ∷ a .total ∷ a .first .place ∷ a .first .line ∷ a .first .value ∷ [])
     (rw (count .ensures) (numbers-most (a .class))))
 
@@ -29,7 +29,7 @@ put-line-requires c κs =
     let c3 = c .before .before .before in
     let a = c3 .before .before in
     room-as _ _
-    (left-line (a .args .class) (a .args .caught) (a .args .total) (a .args .first) _ _ (c3 .numbers-of .ensures) (c .before .letter-of .ensures))
+    (left-line (a .args .class) (a .args .caught) (a .args .total) (a .args .first) _ _ (c3 .numbers-shown .ensures) (c .before .letter-of .ensures))
     (a .pre)
 
 same-length : tie.Need-same-length
@@ -41,14 +41,14 @@ returns c =
     let c6 = c4 .before .before in
     let c8 = c6 .before .before in
     let a = c8 .args in
-    put-as _ _ _ _ (left-line (a .class) (a .caught) (a .total) (a .first) _ _ (c6 .numbers-of .ensures) (c4 .letter-of .ensures))
+    put-as _ _ _ _ (left-line (a .class) (a .caught) (a .total) (a .first) _ _ (c6 .numbers-shown .ensures) (c4 .letter-of .ensures))
     (c .before .before .put-line .ensures)
 
 pub put-left-spec : {M : Type 1} → statement M
 put-left-spec =
     tie.close
     (tie.spec
-    numbers-of-requires
+    numbers-shown-requires
     letter-of-requires
     array-share-prefix-numbers
     slice-aggregate-put-line
