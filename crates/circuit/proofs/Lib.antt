@@ -5,4 +5,5 @@ pub mod RuleLaws
 pub mod AnswerLaws
 pub mod StepLaws
 pub mod NoControlLaws
+pub mod StopLaws
 pub mod LineLaws

@@ -1,6 +1,7 @@
 -- Laws of the rules of a circuit: which test breaks which rule, and what a circuit that breaks none is.
 use Prim.Native.Nat.{ℕ, _+_, _-_, _*_, _/_, _%_, _^_, _<_, _≤_}
 use mathlib.Core.Path.{_≡_, ap}
+use mathlib.Core.Logic.{_≢_}
 use mathlib.Core.Bool.{true, false, not, _||_}
 use mathlib.Core.List.{List, _++_}
 use native.Mathlib.Omega.{arith}
@@ -11,12 +12,14 @@ use Rattle.basics.specs.Lists.{All}
 use Rattle.basics.proofs.Tests.{or-neither, or-false, or-left, or-right}
 use Rattle.basics.proofs.All.{all-map, all-at}
 use Rattle.refusals.specs.Tables.{firstOf}
+use Rattle.refusals.specs.Tables.Told.{refused}
 use Rattle.refusals.specs.Checks.{fine}
 use Rattle.refusals.proofs.Tables.{Numbered, fine-row, fine-parts}
 use Rattle.refusals.proofs.Places.{bad-le, none-bad, none-left}
+use Rattle.circuit.specs.Limits.{mostLines, mostGates, mostVectors}
 use Rattle.circuit.specs.Gates.{gatesOf, noGate, gateAt}
 use Rattle.circuit.specs.Controls.{isControl}
-use Rattle.circuit.specs.Rules.{badGate, firstBadGate, circuitSetRows, circuitRows, firstBadVector, setRows, vectorRows, levelRows, runRows}
+use Rattle.circuit.specs.Rules.{badLines, badCounts, badGate, firstBadGate, circuitSetRows, circuitRows, firstBadVector, setRows, vectorRows, levelRows, runRows}
 use Rattle.circuit.specs.Sound.{GateOk, AllOk, Sound}
 use Rattle.circuit.specs.declared.Gate.{Gate}
 use Rattle.circuit.proofs.GateLaws.{gates-count}
@@ -56,23 +59,41 @@ module _ (n : ℕ) (g : Gate) where
 
 -- ---- the rules of a circuit
 
-pub lines-none : (n : ℕ) → n ≡ 0 → ltb n 1 || ltb 32 n ≡ true
-lines-none n e = or-left _ (lt-ltb n 1 (omega arith))
+pub lines-right : (n : ℕ) → badLines n ≡ false → (1 ≤ n) × (n ≤ mostLines)
+unfolding badLines
+lines-right n e = let w = or-neither (ltb n 1) (ltb mostLines n) e in (ltb-false n 1 (w .0), ltb-false mostLines n (w .1))
 
-pub lines-many : (n : ℕ) → 32 < n → ltb n 1 || ltb 32 n ≡ true
-lines-many n h = or-right (ltb n 1) (lt-ltb 32 n h)
+pub counts-right : (d m : ℕ) → badCounts d m ≡ false → (d ≤ mostGates) × (m ≤ mostVectors)
+unfolding badCounts
+counts-right d m e = let w = or-neither (ltb mostGates d) (ltb mostVectors m) e in (ltb-false mostGates d (w .0), ltb-false mostVectors m (w .1))
 
-pub lines-right : (n : ℕ) → (n ≡ 0 → ⊥) → n ≤ 32 → ltb n 1 || ltb 32 n ≡ false
-lines-right n e h = or-false (le-ltb n 1 (omega arith)) (le-ltb 32 n h)
+pub lines-good : (n : ℕ) → 1 ≤ n → n ≤ mostLines → badLines n ≡ false
+unfolding badLines
+lines-good n lo hi = or-false (le-ltb n 1 lo) (le-ltb mostLines n hi)
 
-pub gates-many : (words : List ℕ) (m : ℕ) → 1024 < length words / 3 → ltb 1024 (length (gatesOf words)) || ltb 2048 m ≡ true
-gates-many words m h = or-left _ (lt-ltb 1024 (length (gatesOf words)) (omega (arith, gates-count words)))
+pub counts-good : (d m : ℕ) → d ≤ mostGates → m ≤ mostVectors → badCounts d m ≡ false
+unfolding badCounts
+counts-good d m h k = or-false (le-ltb mostGates d h) (le-ltb mostVectors m k)
 
-pub vectors-many : (words : List ℕ) (m : ℕ) → 2048 < m → ltb 1024 (length (gatesOf words)) || ltb 2048 m ≡ true
-vectors-many words m h = or-right (ltb 1024 (length (gatesOf words))) (lt-ltb 2048 m h)
+-- which test of a circuit with a set of m vectors breaks which rule
+module _ (n : ℕ) (words : List ℕ) (m : ℕ) where
+  pub set-lines : badLines n ≡ true → refused 3 0 ≡ firstOf (circuitSetRows n words m) fine
+  unfolding circuitSetRows
+  set-lines e = rw e
 
-pub sizes-right : (words : List ℕ) (m : ℕ) → length words / 3 ≤ 1024 → m ≤ 2048 → ltb 1024 (length (gatesOf words)) || ltb 2048 m ≡ false
-sizes-right words m h k = or-false (le-ltb 1024 (length (gatesOf words)) (omega (arith, gates-count words))) (le-ltb 2048 m k)
+  module _ (lines : badLines n ≡ false) where
+    pub set-counts : badCounts (length words / 3) m ≡ true → refused 5 0 ≡ firstOf (circuitSetRows n words m) fine
+    unfolding circuitSetRows
+    set-counts e = rw (lines, gates-count words, e)
+
+    module _ (counts : badCounts (length words / 3) m ≡ false) (bad : ℕ) (is : bad ≡ firstBadGate n words) where
+      pub set-gate : bad ≢ 0 → refused 7 bad ≡ firstOf (circuitSetRows n words m) fine
+      unfolding circuitSetRows
+      set-gate d = rw (lines, gates-count words, counts, ← is, ne-eqb bad 0 d)
+
+      pub set-fine : bad ≡ 0 → fine ≡ firstOf (circuitSetRows n words m) fine
+      unfolding circuitSetRows
+      set-fine e = rw (lines, gates-count words, counts, ← is, eq-eqb bad 0 e)
 
 -- the number of a bad gate is a gate's, or the next
 pub first-bad-le : (n : ℕ) (words : List ℕ) → firstBadGate n words ≤ 1 + length words / 3
@@ -94,26 +115,26 @@ sound-whole n words e =
 -- with a set of m vectors
 pub record SetOk (n : ℕ) (words : List ℕ) (m : ℕ) : Type 0 where
   pub circuit : Sound n words
-  pub vectors-fit : m ≤ 2048
+  pub vectors-fit : m ≤ mostVectors
 
 pub circuit-set-ok : (n : ℕ) (words : List ℕ) (m : ℕ) → fine ≡ firstOf (circuitSetRows n words m) fine → SetOk n words m
 unfolding circuitSetRows
 circuit-set-ok n words m e0 =
-    let e1 = fine-row (ltb n 1 || ltb 32 n) 3 0 _ e0 in
-    let lines = or-neither (ltb n 1) (ltb 32 n) (e1 .0) in
-    let e2 = fine-row (ltb 1024 (length (gatesOf words)) || ltb 2048 m) 5 0 _ (e1 .1) in
-    let sizes = or-neither (ltb 1024 (length (gatesOf words))) (ltb 2048 m) (e2 .0) in
+    let e1 = fine-row (badLines n) 3 0 _ e0 in
+    let lines = lines-right n (e1 .0) in
+    let e2 = fine-row (badCounts (length (gatesOf words)) m) 5 0 _ (e1 .1) in
+    let counts = counts-right (length (gatesOf words)) m (e2 .0) in
     let e3 = fine-row (not (eqb (firstBadGate n words) 0)) 7 (firstBadGate n words) _ (e2 .1) in
     let bad = eqb-true (firstBadGate n words) 0 (not-false (eqb (firstBadGate n words) 0) (e3 .0)) in
     record {
       circuit = record {
-        some-lines = ltb-false n 1 (lines .0);
-        lines-fit = ltb-false 32 n (lines .1);
-        gates-fit = ltb-false 1024 (length (gatesOf words)) (sizes .0);
+        some-lines = lines .0;
+        lines-fit = lines .1;
+        gates-fit = counts .0;
         whole = sound-whole n words bad;
         gates-ok = sound-gates n words bad;
       };
-      vectors-fit = ltb-false 2048 m (sizes .1);
+      vectors-fit = counts .1;
     }
 
 pub sound : (n : ℕ) (words : List ℕ) → fine ≡ firstOf (circuitRows n words) fine → Sound n words
@@ -151,7 +172,7 @@ gate-at-ok n gs g ok p h = all-at (GateOk n) gs (g - 1) noGate (omega arith) ok
 pub gate-ok : (n : ℕ) (words : List ℕ) (g : ℕ) → Sound n words → 0 < g → g ≤ length (gatesOf words) → GateOk n (gateAt (gatesOf words) g)
 gate-ok n words g s p h = gate-at-ok n (gatesOf words) g (s .gates-ok) p h
 
-pub target-fits : (n : ℕ) (words : List ℕ) (g : ℕ) → Sound n words → 0 < g → g ≤ length (gatesOf words) → gateAt (gatesOf words) g .target < 32
+pub target-fits : (n : ℕ) (words : List ℕ) (g : ℕ) → Sound n words → 0 < g → g ≤ length (gatesOf words) → gateAt (gatesOf words) g .target < mostLines
 target-fits n words g s p h = let ok = gate-ok n words g s p h in omega arith
 
 -- ---- a vector with its circuit, and a run

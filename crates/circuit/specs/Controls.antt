@@ -3,6 +3,8 @@ use Prim.Native.Nat.{ℕ}
 use mathlib.Core.Bool.{Bool, not, _&&_}
 use lib.Dec.{eqb}
 use Rattle.words.specs.Word.{bit, force}
+use Rattle.words.specs.WordOf.{wordOf}
+use Rattle.circuit.specs.Runs.{fires}
 use Rattle.circuit.specs.declared.Gate.{Gate}
 
 -- line c is a control
@@ -20,3 +22,11 @@ moreControl a g = record { controls = force (g .controls) a 1; spare = g .spare;
 -- line a is neither a control nor the target
 unfoldable pub isOther : Gate → ℕ → Bool
 isOther g a = not (isControl g a) && not (eqb a (g .target))
+
+-- line c alone stops the gate: it does not fire, and without c as a control it would
+unfoldable pub stops : Gate → ℕ → ℕ → Bool
+stops g s c = not (fires g s) && fires (lessControl c g) s
+
+-- the lines that do, as a word; each of them is a control
+unfoldable pub stopping : ℕ → Gate → ℕ → ℕ
+stopping n g s = wordOf n (stops g s)

@@ -1,3 +1,4 @@
+pub mod Limits
 pub mod Gates
 pub mod Controls
 pub mod Runs

@@ -7,9 +7,18 @@ use lib.Dec.{eqb, ltb, leb}
 use Rattle.refusals.specs.Tables.{Row}
 use Rattle.refusals.specs.Tables.Row.{refuse_at_when_}
 use Rattle.refusals.specs.Places.{firstBad}
+use Rattle.circuit.specs.Limits.{mostLines, mostGates, mostVectors}
 use Rattle.circuit.specs.Gates.{gatesOf}
 use Rattle.circuit.specs.Controls.{isControl}
 use Rattle.circuit.specs.declared.Gate.{Gate}
+
+-- no line, or more than a circuit may have
+unfoldable pub badLines : ℕ → Bool
+badLines n = ltb n 1 || ltb mostLines n
+
+-- more gates than a circuit may have, or more vectors than a set
+unfoldable pub badCounts : ℕ → ℕ → Bool
+badCounts d m = ltb mostGates d || ltb mostVectors m
 
 -- a mask bit at n or above, a spare that is not 0, a target at n or above, or the target among the controls
 unfoldable pub badGate : ℕ → Gate → Bool
@@ -22,8 +31,8 @@ firstBadGate n words = firstBad (badGate n) (not (eqb (length words % 3) 0)) (ga
 -- a circuit with a set of m vectors
 unfoldable pub circuitSetRows : ℕ → List ℕ → ℕ → List Row
 circuitSetRows n words m =
-    refuse 3 at 0 when (ltb n 1 || ltb 32 n) ∷
-    refuse 5 at 0 when (ltb 1024 (length (gatesOf words)) || ltb 2048 m) ∷
+    refuse 3 at 0 when badLines n ∷
+    refuse 5 at 0 when badCounts (length (gatesOf words)) m ∷
     refuse 7 at firstBadGate n words when not (eqb (firstBadGate n words) 0) ∷ []
 
 -- a circuit with no set

@@ -5,6 +5,7 @@ use mathlib.Core.List.{List}
 use lib.ListN.{length}
 use Rattle.basics.specs.Lists.{All}
 use mathlib.Core.Bool.{false}
+use Rattle.circuit.specs.Limits.{mostLines, mostGates}
 use Rattle.circuit.specs.Gates.{gatesOf}
 use Rattle.circuit.specs.Controls.{isControl}
 use Rattle.circuit.specs.declared.Gate.{Gate}
@@ -21,7 +22,7 @@ AllOk n gs = All (GateOk n) gs
 -- 1 to 32 lines, at most 1,024 gates, no word left over, and every gate on these lines
 pub record Sound (n : ℕ) (words : List ℕ) : Type 0 where
   pub some-lines : 1 ≤ n
-  pub lines-fit : n ≤ 32
-  pub gates-fit : length (gatesOf words) ≤ 1024
+  pub lines-fit : n ≤ mostLines
+  pub gates-fit : length (gatesOf words) ≤ mostGates
   pub whole : length words ≡ 3 * length (gatesOf words)
   pub gates-ok : AllOk n (gatesOf words)

@@ -2,8 +2,9 @@
 ghost use mathlib.Core.Path.{_≡_};
 ghost use Prim.Native.Nat.{_*_, _<_, _≤_};
 ghost use lib.ListN.{length};
+ghost use Rattle.circuit.specs.Limits.{mostLines};
 ghost use Rattle.circuit.specs.Gates.{gatesOf, gateAt};
-ghost use Rattle.circuit.specs.Controls.{isControl, lessControl, moreControl, isOther};
+ghost use Rattle.circuit.specs.Controls.{isControl, lessControl, moreControl, isOther, stopping};
 ghost use Rattle.circuit.specs.Runs.{fires, step, forward, onward, backward};
 ghost use Rattle.circuit.specs.Sound.{GateOk, Sound};
 ghost use Rattle.words.specs.WordOf.{wordOf};
@@ -36,7 +37,7 @@ pub fn fires(gate: Gate, state: u32) -> bool
 
 // Whether a line is a control of a gate.
 pub fn is_control(gate: Gate, line: u32) -> bool
-    requires { ⌜ line < 32 ⌝ }
+    requires { ⌜ line < mostLines ⌝ }
     ensures { λ r. ⌜ r ≡ isControl gate line ⌝ }
 {
     words::checked::value(gate.controls, line) == 1
@@ -52,15 +53,23 @@ pub fn control_lines(lines: u32, gate: Gate) -> u32
 
 // The lines that are neither a control nor the target of a gate, as a word.
 pub fn other_lines(lines: u32, gate: Gate) -> u32
-    requires { ⌜ (lines ≤ 32) × GateOk lines gate ⌝ }
+    requires { ⌜ (lines ≤ mostLines) × GateOk lines gate ⌝ }
     ensures { λ r. ⌜ r ≡ wordOf lines (isOther gate) ⌝ }
 {
     words::checked::flip(gate.controls ^ words::checked::all_ones(lines), gate.target)
 }
 
+// The controls that alone stop a gate: without one of them it would fire.
+pub fn stopping_controls(lines: u32, gate: Gate, state: u32) -> u32
+    requires { ⌜ (lines ≤ mostLines) × GateOk lines gate ⌝ }
+    ensures { λ r. ⌜ r ≡ stopping lines gate state ⌝ }
+{
+    words::lone_zero(gate.controls, state)
+}
+
 // The gate without one of its controls.
 pub fn less_control(gate: Gate, line: u32) -> Gate
-    requires { ⌜ line < 32 ⌝ }
+    requires { ⌜ line < mostLines ⌝ }
     ensures { λ r. ⌜ r ≡ lessControl line gate ⌝ }
 {
     Gate {
@@ -72,7 +81,7 @@ pub fn less_control(gate: Gate, line: u32) -> Gate
 
 // The gate with one control more.
 pub fn more_control(gate: Gate, line: u32) -> Gate
-    requires { ⌜ line < 32 ⌝ }
+    requires { ⌜ line < mostLines ⌝ }
     ensures { λ r. ⌜ r ≡ moreControl line gate ⌝ }
 {
     Gate {
@@ -84,7 +93,7 @@ pub fn more_control(gate: Gate, line: u32) -> Gate
 
 // What a gate makes of a state: the target bit flipped by a shifted one where the gate fires, and by a shifted zero elsewhere.
 pub fn step(gate: Gate, state: u32) -> u32
-    requires { ⌜ gate .target < 32 ⌝ }
+    requires { ⌜ gate .target < mostLines ⌝ }
     ensures { λ r. ⌜ r ≡ step gate state ⌝ }
 {
     let target = gate.target;

@@ -11,6 +11,7 @@ use refusals::Checked;
 use refusals::Refusal;
 
 pub mod checked;
+pub mod limits;
 pub mod numbers;
 pub mod rules;
 

@@ -1,6 +1,7 @@
 // Gate numbers run from 1 and level numbers from 0. Only the functions here make them, read them and turn one into the other.
 ghost use mathlib.Core.Path.{_≡_};
 ghost use Prim.Native.Nat.{_+_, _<_};
+ghost use Rattle.circuit.specs.Limits.{mostGates};
 
 // The number of a gate, from 1.
 pub struct GateNumber(usize);
@@ -37,6 +38,13 @@ pub fn gates_ahead(gate: GateNumber) -> usize
     gate.0 - 1
 }
 
+// How many gates stand up to a gate, with itself.
+pub fn gates_through(gate: GateNumber) -> usize
+    ensures { λ r. ⌜ r ≡ gate .0 ⌝ }
+{
+    gate.0
+}
+
 // The level that a gate reads.
 pub fn level_read(gate: GateNumber) -> LevelNumber
     requires { ⌜ 0 < gate .0 ⌝ }
@@ -54,7 +62,7 @@ pub fn level_made(gate: GateNumber) -> LevelNumber
 
 // The gate that reads a level.
 pub fn gate_after(level: LevelNumber) -> GateNumber
-    requires { ⌜ level .0 < 1024 ⌝ }
+    requires { ⌜ level .0 < mostGates ⌝ }
     ensures { λ r. ⌜ r .0 ≡ level .0 + 1 ⌝ }
 {
     GateNumber(level.0 + 1)

@@ -4,17 +4,35 @@ ghost use mathlib.Core.List.{_++_};
 ghost use Prim.Native.Nat.{_≤_};
 ghost use Rattle.refusals.specs.Tables.{firstOf};
 ghost use Rattle.refusals.specs.Checks.{fine, found};
-ghost use Rattle.circuit.specs.Rules.{badGate, firstBadGate, circuitSetRows, circuitRows, firstBadVector, setRows, vectorRows, runRows};
+ghost use Rattle.circuit.specs.Limits.{mostLines};
+ghost use Rattle.circuit.specs.Rules.{badLines, badCounts, badGate, firstBadGate, circuitSetRows, circuitRows, firstBadVector, setRows, vectorRows, runRows};
 use crate::Gate;
 use crate::checked;
+use crate::limits::MOST_GATES;
+use crate::limits::MOST_LINES;
+use crate::limits::MOST_VECTORS;
 use crate::numbers;
 use refusals::Checked;
 use refusals::Refusal;
 use words;
 
+// Whether a circuit has no line, or more than it may have.
+pub fn bad_lines(lines: u32) -> bool
+    ensures { λ r. ⌜ r ≡ badLines lines ⌝ }
+{
+    lines < 1 || MOST_LINES < lines
+}
+
+// Whether there are more gates or more vectors than there may be.
+pub fn bad_counts(gates: usize, vectors: usize) -> bool
+    ensures { λ r. ⌜ r ≡ badCounts gates vectors ⌝ }
+{
+    MOST_GATES < gates || MOST_VECTORS < vectors
+}
+
 // Whether a gate is none of a circuit of so many lines.
 pub fn bad_gate(lines: u32, gate: Gate) -> bool
-    requires { ⌜ lines ≤ 32 ⌝ }
+    requires { ⌜ lines ≤ mostLines ⌝ }
     ensures { λ r. ⌜ r ≡ badGate lines gate ⌝ }
 {
     let controls = gate.controls;
@@ -34,7 +52,7 @@ pub fn bad_gate(lines: u32, gate: Gate) -> bool
 
 // The number of the first bad gate, and 0 where none is bad; words left over are one more bad gate.
 pub fn first_bad_gate(lines: u32, gates: &[u32]) -> usize
-    requires { ⌜ lines ≤ 32 ⌝ }
+    requires { ⌜ lines ≤ mostLines ⌝ }
     ensures { λ r. ⌜ r ≡ firstBadGate lines (now (gates .entry)) ⌝ }
 {
     let whole = gates.len() / 3;
@@ -52,25 +70,13 @@ pub fn first_bad_gate(lines: u32, gates: &[u32]) -> usize
 pub fn check_circuit_set(lines: u32, gates: &[u32], vectors: usize) -> Checked
     ensures { λ r. ⌜ found r ≡ firstOf (circuitSetRows lines (now (gates .entry)) vectors) fine ⌝ }
 {
-    if lines == 0 {
+    if bad_lines(lines) {
         return Checked::Wrong(Refusal {
             number: 3,
             place: 0,
         });
     }
-    if 32 < lines {
-        return Checked::Wrong(Refusal {
-            number: 3,
-            place: 0,
-        });
-    }
-    if 1024 < gates.len() / 3 {
-        return Checked::Wrong(Refusal {
-            number: 5,
-            place: 0,
-        });
-    }
-    if 2048 < vectors {
+    if bad_counts(gates.len() / 3, vectors) {
         return Checked::Wrong(Refusal {
             number: 5,
             place: 0,
@@ -95,7 +101,7 @@ pub fn check_circuit(lines: u32, gates: &[u32]) -> Checked
 
 // The place of the first vector of 2 ^ n or more, and 0 where none is.
 pub fn first_bad_vector(lines: u32, vectors: &[u32]) -> usize
-    requires { ⌜ lines ≤ 32 ⌝ }
+    requires { ⌜ lines ≤ mostLines ⌝ }
     ensures { λ r. ⌜ r ≡ firstBadVector lines (now (vectors .entry)) ⌝ }
 {
     let mut i = 0;

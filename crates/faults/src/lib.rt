@@ -1,4 +1,5 @@
 // Faults: records of them, the sites where a line can be stuck, and the rules of one fault and of several together.
+pub mod places;
 pub mod records;
 pub mod rules;
 pub mod sites;

@@ -12,6 +12,7 @@ ghost use Rattle.faults.specs.Rules.{isStuckAt, isMissingGate, isMissing
 ghost use Rattle.faults.specs.Records.{noFault, faultsOf, firstBadRecord};
 ghost use Rattle.faults.specs.Multiple.{badEntry, sameSite, siteTwice, entriesRows};
 use crate::Fault;
+use crate::places;
 use crate::records;
 use crate::sites::sites_at;
 use circuit::checked::gate_at;
@@ -26,15 +27,15 @@ pub fn is_stuck_at(lines: u32, gates: &[u32], fault: Fault) -> bool
     requires { ⌜ Sound lines (now gates) ⌝ }
     ensures { λ r. ⌜ r ≡ isStuckAt lines (gatesOf (now (gates .entry))) fault ⌝ }
 {
-    let place = fault.place;
+    let level = places::level_of(fault);
     let line = fault.line;
-    if gates.len() / 3 < place as usize {
+    if gates.len() / 3 < numbers::gates_before(level) {
         return false;
     }
     if lines <= line {
         return false;
     }
-    if words::checked::value(sites_at(lines, gates, place), line) != 1 {
+    if words::checked::value(sites_at(lines, gates, level), line) != 1 {
         return false;
     }
     fault.value <= 1

@@ -3,12 +3,14 @@ ghost use mathlib.Core.Path.{_≡_};
 ghost use Rattle.circuit.specs.Gates.{gatesOf};
 ghost use Rattle.circuit.specs.Sound.{Sound};
 ghost use Rattle.faults.specs.Sites.{sites, siteCount};
+use circuit::numbers;
+use circuit::numbers::LevelNumber;
 use words;
 
 // The lines that are sites at a level: all of them.
-pub fn sites_at(lines: u32, gates: &[u32], level: u32) -> u32
+pub fn sites_at(lines: u32, gates: &[u32], level: LevelNumber) -> u32
     requires { ⌜ Sound lines (now gates) ⌝ }
-    ensures { λ r. ⌜ r ≡ sites lines (gatesOf (now (gates .entry))) level ⌝ }
+    ensures { λ r. ⌜ r ≡ sites lines (gatesOf (now (gates .entry))) (level .0) ⌝ }
 {
     words::checked::all_ones(lines)
 }
@@ -22,7 +24,7 @@ pub fn site_count(lines: u32, gates: &[u32]) -> u32
     let mut sum = 0;
     let mut i = 0;
     while i < end {
-        sum += words::ones(sites_at(lines, gates, i as u32));
+        sum += words::ones(sites_at(lines, gates, numbers::level(i)));
         i += 1;
     }
     sum

@@ -9,12 +9,13 @@ use borrow.Author.Tests.{eq-eqb}
 use Rattle.basics.proofs.Tests.{by-test}
 use Rattle.words.specs.Word.{bit}
 use Rattle.circuit.specs.Gates.{gateAt}
-use Rattle.circuit.specs.Controls.{isControl, lessControl, moreControl}
+use Rattle.circuit.specs.Controls.{isControl, lessControl, moreControl, stops}
 use Rattle.circuit.specs.Runs.{fires, step, run, forward}
 use Rattle.circuit.specs.Sound.{AllOk}
 use Rattle.circuit.specs.declared.Gate.{Gate}
 use Rattle.circuit.proofs.RunLaws.{level-step}
 use Rattle.circuit.proofs.NoControlLaws.{less-same, more-same, control-off}
+use Rattle.circuit.proofs.StopLaws.{stops-zero}
 use Rattle.simulator.specs.Faulty.{faulty, caught}
 use Rattle.faults.specs.declared.Fault.{Fault}
 use Rattle.simulator.proofs.FaultyLaws.{caught-at, run-changed, faulty-missing-control, faulty-extra-control, missing-control-caught}
@@ -51,6 +52,10 @@ module _ (n : ℕ) (gs : List Gate) (ok : AllOk n gs) (f : Fault) (lo : 1 ≤ f 
       by-test (isControl g (f .line))
       (λ c. missing-control-caught n gs ok f lo hi x e c ∙ ap (λ b. b && (eqb (bit s (f .line)) 0 && fires (lessControl (f .line) g) s)) (sym c))
       (λ c. none-missing e c ∙ ap (λ b. b && (eqb (bit s (f .line)) 0 && fires (lessControl (f .line) g) s)) (sym c))
+
+  -- a missing control is caught where it alone stops the gate
+  pub missing-stops : f .class ≡ 3 → caught gs f x ≡ stops (gateAt gs (f .place)) (forward gs (f .place - 1) x) (f .line)
+  missing-stops e = missing-caught e ∙ sym (stops-zero (gateAt gs (f .place)) (forward gs (f .place - 1) x) (f .line))
 
   pub extra-caught : f .class ≡ 4
       → caught gs f x ≡ (eqb (bit (forward gs (f .place - 1) x) (f .line)) 0 && fires (gateAt gs (f .place)) (forward gs (f .place - 1) x))

@@ -1,4 +1,4 @@
--- `simulator::rules::is_stuck_at` meets its contract: each test is one of the fields of a stuck-at fault. Assumes nothing.
+-- `faults::rules::is_stuck_at` meets its contract: each test is one of the fields of a stuck-at fault. Assumes nothing.
 use mathlib.Core.Path.{_≡_}
 use native.Mathlib.Omega.{arith}
 use lib.ListN.{length}
@@ -12,20 +12,23 @@ use borrow.Author.Needs.{needs}
 use Rattle.faults.proofs.rules.is_stuck_at.Statement.{statement}
 use Rattle.faults.proofs.rules.is_stuck_at.Tie as tie
 
-cast-if1 : tie.Need-cast-if1
-cast-if1 c = search needs
+level-of-requires : tie.Need-level-of-requires
+level-of-requires c κs = search needs
+
+gates-before-requires : tie.Need-gates-before-requires
+gates-before-requires c κs = search needs
 
 returns : tie.Need-returns
 unfolding isStuckAt
 returns c =
-    let a = c .before .before .args in
+    let a = c .before .before .before .before .args in
     let gs = gatesOf (a .gates .now) in
     rw (lt-leb (a .fault .place) (length gs) (omega arith))
 
 returns-2 : tie.Need-returns-2
 unfolding isStuckAt
 returns-2 c =
-    let a = c .before .before .before .args in
+    let a = c .before .before .before .before .before .args in
     let gs = gatesOf (a .gates .now) in
     rw (le-leb (a .fault .place) (length gs) (omega arith), site-above (a .lines) gs (a .fault .place) (a .fault .line) (c .if2 .taken))
 
@@ -38,7 +41,7 @@ value-requires c κs = search needs
 returns-3 : tie.Need-returns-3
 unfolding isStuckAt
 returns-3 c =
-    let a = c .before .before .before .before .before .before .args in
+    let a = c .before .before .before .before .before .before .before .before .args in
     let gs = gatesOf (a .gates .now) in
     let site : c .before .value .result ≡ bit (sites (a .lines) gs (a .fault .place)) (a .fault .line) = cc in
     rw (le-leb (a .fault .place) (length gs) (omega arith), ← site, ne-eqb _ _ (c .if3 .taken))
@@ -46,7 +49,7 @@ returns-3 c =
 returns-4 : tie.Need-returns-4
 unfolding isStuckAt
 returns-4 c =
-    let a = c .before .before .before .before .before .before .before .args in
+    let a = c .before .before .before .before .before .before .before .before .before .args in
     let gs = gatesOf (a .gates .now) in
     let site : c .before .before .value .result ≡ bit (sites (a .lines) gs (a .fault .place)) (a .fault .line) = cc in
     rw (le-leb (a .fault .place) (length gs) (omega arith), ← site, eq-eqb _ _ (c .before .if3 .left))
@@ -54,4 +57,12 @@ returns-4 c =
 pub is-stuck-at-spec : {M : Type 1} → statement M
 is-stuck-at-spec =
     tie.close
-    (tie.spec cast-if1 returns returns-2 sites-at-requires value-requires returns-3 returns-4)
+    (tie.spec
+    level-of-requires
+    gates-before-requires
+    returns
+    returns-2
+    sites-at-requires
+    value-requires
+    returns-3
+    returns-4)

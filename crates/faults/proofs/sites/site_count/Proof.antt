@@ -1,13 +1,13 @@
--- `testsets::rules::site_count` meets its contract: each turn adds the sites of one level. Assumes nothing.
+-- `faults::sites::site_count` meets its contract: each turn adds the sites of one level. Assumes nothing.
 use Prim.Native.Nat.{_+_, _-_, _*_, _≤_}
-use mathlib.Core.Path.{_≡_}
+use mathlib.Core.Path.{_≡_, ap, _∙_}
 use native.Mathlib.Omega.{arith}
 use borrow.Author.Needs.{needs}
 use lib.ListN.{length}
 use Rattle.circuit.specs.Gates.{gatesOf}
 use Rattle.circuit.proofs.GateLaws.{gates-count}
 use Rattle.words.proofs.AndLaws.{length-lines-le}
-use Rattle.faults.specs.Sites.{siteCount}
+use Rattle.faults.specs.Sites.{sites, siteCount}
 use Rattle.faults.proofs.SiteCount.{sitesFrom, sites-all, sites-more, sites-none}
 use Rattle.faults.proofs.sites.site_count.Statement.{statement}
 use Rattle.faults.proofs.sites.site_count.Tie as tie
@@ -28,8 +28,8 @@ loop-holds c =
     let a = c .before .args in
     (omega (arith, gates-count (a .gates .now)), (omega arith, (omega arith, omega (arith, sites-all (a .lines) (gatesOf (a .gates .now))))))
 
-cast-sites-at : tie.Need-cast-sites-at Inv-loop μ-loop
-cast-sites-at c = omega arith
+level-requires : tie.Need-level-requires Inv-loop μ-loop
+level-requires c κs = search needs
 
 sites-at-requires : tie.Need-sites-at-requires Inv-loop μ-loop
 sites-at-requires c κs = search needs
@@ -48,10 +48,11 @@ loop-less c = omega arith
 
 loop-again : tie.Need-loop-again Inv-loop μ-loop
 loop-again c =
-    let l = c .before .before .before in
+    let l = c .before .before .before .before in
     let a = l .before .before .args in
     let fit = length-lines-le 32 (c .before .sites-at .result) in
-    let more = sites-more (a .lines) (gatesOf (a .gates .now)) (l .loop .i) _ (omega arith) (omega arith) (c .before .sites-at .ensures) in
+    let more = sites-more (a .lines) (gatesOf (a .gates .now)) (l .loop .i) _ (omega arith) (omega arith)
+    (c .before .sites-at .ensures ∙ ap (sites (a .lines) (gatesOf (a .gates .now))) (c .before .before .level .ensures)) in
     (l .loop .inv .0, (omega arith, (omega (arith, c .ones .ensures), omega (arith, c .ones .ensures))))
 
 returns : tie.Need-returns Inv-loop μ-loop
@@ -68,7 +69,7 @@ site-count-spec =
     μ-loop
     add-end
     loop-holds
-    cast-sites-at
+    level-requires
     sites-at-requires
     ones-requires
     add-sum
