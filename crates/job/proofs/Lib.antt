@@ -1,7 +1,9 @@
 pub mod ByteLaws
-pub mod RuleLaws
 pub mod ImageLaws
 pub mod NumberLaws
-pub mod AnswerLaws
-pub mod FitLaws
+pub mod TurnLaws
+pub mod HeaderLaws
+pub mod ReadLaws
+pub mod WriteLaws
 pub mod RoundTrip
+pub mod AnswerLaws
