@@ -12,6 +12,7 @@ use borrow.Author.Tests.{eq-eqb}
 use Rattle.basics.specs.Lists.{All, upFrom, keep, each}
 use Rattle.basics.proofs.Lists.{keep-le, all-keep}
 use Rattle.basics.proofs.Tests.{by-test}
+use Rattle.circuit.specs.Limits.{mostLines, mostGates, mostVectors, levels}
 use Rattle.circuit.specs.Gates.{gatesOf}
 use Rattle.circuit.specs.Sound.{Sound, AllOk}
 use Rattle.circuit.specs.declared.Gate.{Gate}
@@ -26,7 +27,7 @@ use Rattle.faults.proofs.SiteCount.{length-stuck}
 use Rattle.job.specs.Wanted.{isWanted, wanted}
 use Rattle.text.specs.Decimal.{decimalIn, decimal}
 use Rattle.report_text.specs.Lines.{spaced, line}
-use Rattle.report_text.specs.Report.{letterOf, shown, firstText, classText, jobText, refusedText}
+use Rattle.report_text.specs.Report.{letterOf, shown, firstText, classText, jobLine, classLines, jobText, refusedText, longestReport}
 use Rattle.report_text.specs.Parts.{wantedText}
 use Rattle.text.proofs.TextLaws.{enough, digits-most}
 use Rattle.report_text.proofs.ClassLaws.{wanted-text}
@@ -91,17 +92,17 @@ spaced-one : (a : ℕ) → length (each spaced (a ∷ [])) ≡ length (spaced a)
 unfolding each
 spaced-one a = rw (length-append (spaced a) []) (omega arith)
 
-gate-fits : (i : ℕ) → i ≤ 1024 → length (spaced i) ≤ 5
+gate-fits : (i : ℕ) → i ≤ mostGates → length (spaced i) ≤ 5
 gate-fits i h = spaced-fits 6 4 i refl (omega arith) (omega arith)
 
-line-fits : (j : ℕ) → j < 32 → length (spaced j) ≤ 3
+line-fits : (j : ℕ) → j < mostLines → length (spaced j) ≤ 3
 line-fits j h = spaced-fits 8 2 j refl (omega arith) (omega arith)
 
-module _ (n : ℕ) (gs : List Gate) (xs : List ℕ) (lines : n ≤ 32) (gates : length gs ≤ 1024) (ok : AllOk n gs) where
+module _ (n : ℕ) (gs : List Gate) (xs : List ℕ) (lines : n ≤ mostLines) (gates : length gs ≤ mostGates) (ok : AllOk n gs) where
   stuck-line : length (classText n gs xs 1) ≤ 24
   unfolding shown faultOf
   stuck-line =
-      let many : n * suc (length gs) ≤ 32 * 1025 = mul-le-mul {n₂ = 32} {m₂ = 1025} lines (omega arith) in
+      let many : n * suc (length gs) ≤ mostLines * levels = mul-le-mul {n₂ = mostLines} {m₂ = levels} lines (omega arith) in
       class-fits n gs xs 1 5 5 10 refl (omega arith)
       (rw (list-one n gs 1 refl, length-stuck n gs) (omega arith))
       (omega arith)
@@ -122,8 +123,8 @@ module _ (n : ℕ) (gs : List Gate) (xs : List ℕ) (lines : n ≤ 32) (gates : 
       (omega arith)
       (rw (list-two n gs 2 refl) (all-missing-gates _ gs (λ i a b. rw (spaced-one i) (gate-fits i (omega arith)))))
 
-  few : length (missingControls n gs) + length (extraControls n gs) ≤ 31744
-  few = rw (length-controls n gs ok) (mul-le-mul {n₂ = 1024} {m₂ = 31} gates (omega arith))
+  few : length (missingControls n gs) + length (extraControls n gs) ≤ mostGates * 31
+  few = rw (length-controls n gs ok) (mul-le-mul {n₂ = mostGates} {m₂ = 31} gates (omega arith))
 
   control-line : length (classText n gs xs 3) ≤ 22
   unfolding shown faultOf
@@ -173,12 +174,11 @@ module _ (n : ℕ) (gs : List Gate) (xs : List ℕ) (lines : n ≤ 32) (gates : 
 -- ---- the whole text
 
 pub job-parts : (n classes : ℕ) (words xs : List ℕ)
-    → length (jobText n classes words xs)
-    ≡ length (line 74 (each spaced (n ∷ length (gatesOf words) ∷ length xs ∷ []))) + length (each (classText n (gatesOf words) xs) (wanted classes))
+    → length (jobText n classes words xs) ≡ length (jobLine n words xs) + length (classLines n classes words xs)
 unfolding jobText
-job-parts n classes words xs = length-append (line 74 (each spaced (n ∷ length (gatesOf words) ∷ length xs ∷ []))) _
+job-parts n classes words xs = length-append (jobLine n words xs) _
 
-pub job-fits : (n classes : ℕ) (words xs : List ℕ) → Sound n words → length xs ≤ 2048 → length (jobText n classes words xs) ≤ 100
+pub job-fits : (n classes : ℕ) (words xs : List ℕ) → Sound n words → length xs ≤ mostVectors → length (jobText n classes words xs) ≤ longestReport
 job-fits n classes words xs s h =
     rw (
       job-parts n classes words xs,
@@ -197,7 +197,7 @@ spaced-most : (x : ℕ) → length (spaced x) ≤ 11
 unfolding spaced decimal
 spaced-most x = omega (arith, digits-most 10 x)
 
-pub refused-fits : (number place : ℕ) → length (refusedText number place) ≤ 100
+pub refused-fits : (number place : ℕ) → length (refusedText number place) ≤ longestReport
 unfolding refusedText
 refused-fits number place =
     rw (line-bytes 69 (each spaced (number ∷ place ∷ [])), spaced-two number place) (omega (arith, spaced-most number, spaced-most place))

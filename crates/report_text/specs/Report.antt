@@ -1,13 +1,14 @@
 -- The report's text, from any bytes at all.
-use Prim.Native.Nat.{ℕ}
+use Prim.Native.Nat.{ℕ, _*_}
 use mathlib.Core.List.{List, [], _∷_, _++_}
 use lib.ListN.{length}
 use lib.Dec.{eqb}
 use Rattle.basics.specs.Choice.{choice}
 use Rattle.basics.specs.Lists.{each}
-use Rattle.refusals.specs.Tables.{Told, firstOf}
+use Rattle.refusals.specs.Tables.{Row, Told, firstOf}
 use Rattle.refusals.specs.Tables.Told.{answered, refused}
 use Rattle.refusals.specs.Checks.{fine}
+use Rattle.circuit.specs.Limits.{mostGates, mostVectors}
 use Rattle.circuit.specs.Gates.{gatesOf}
 use Rattle.circuit.specs.declared.Gate.{Gate}
 use Rattle.faults.specs.declared.Fault.{Fault}
@@ -41,19 +42,32 @@ classText n gs xs class = line (letterOf class)
     (each spaced (length (caughtOf gs xs (classFaults n gs class)) ∷ length (classFaults n gs class) ∷ [])
     ++ firstText class (left gs xs (classFaults n gs class)))
 
--- J with lines, gates and vectors, then a line for each class wanted
+-- J with lines, gates and vectors
+abbrev pub jobLine : ℕ → List ℕ → List ℕ → List ℕ
+jobLine n words xs = line 74 (each spaced (n ∷ length (gatesOf words) ∷ length xs ∷ []))
+
+-- a line for each class wanted
+abbrev pub classLines : ℕ → ℕ → List ℕ → List ℕ → List ℕ
+classLines n classes words xs = each (classText n (gatesOf words) xs) (wanted classes)
+
 unfoldable pub jobText : ℕ → ℕ → List ℕ → List ℕ → List ℕ
-jobText n classes words xs = line 74 (each spaced (n ∷ length (gatesOf words) ∷ length xs ∷ []))
-    ++ each (classText n (gatesOf words) xs) (wanted classes)
+jobText n classes words xs = jobLine n words xs ++ classLines n classes words xs
 
 -- E with the number and the place of a refusal
 unfoldable pub refusedText : ℕ → ℕ → List ℕ
 refusedText number place = line 69 (each spaced (number ∷ place ∷ []))
 
 -- a job is read with room for the longest, so rule 10 is never broken
+abbrev pub jobRows : List ℕ → List Row
+jobRows bytes = readRows bytes (3 * mostGates) mostVectors
+
 abbrev pub textOf : Told → List ℕ → List ℕ
 textOf (answered values) text = text
 textOf (refused number place) text = refusedText number place
 
 unfoldable pub reportText : List ℕ → List ℕ
-reportText bytes = textOf (firstOf (readRows bytes 3072 2048) fine) (jobText (linesIn bytes) (classesIn bytes) (gateWords bytes) (vectorWords bytes))
+reportText bytes = textOf (firstOf (jobRows bytes) fine) (jobText (linesIn bytes) (classesIn bytes) (gateWords bytes) (vectorWords bytes))
+
+-- how many bytes the longest report has
+abbrev pub longestReport : ℕ
+longestReport = 100

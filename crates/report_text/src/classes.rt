@@ -3,11 +3,10 @@ ghost use mathlib.Core.Path.{_≡_};
 ghost use Prim.Native.Nat.{_+_, _^_, _<_, _≤_};
 ghost use lib.ListN.{length};
 ghost use lib.Seq.{sets};
-ghost use Rattle.basics.specs.Lists.{All, each};
+ghost use Rattle.basics.specs.Lists.{All};
 ghost use Rattle.circuit.specs.Gates.{gatesOf};
 ghost use Rattle.circuit.specs.Sound.{Sound};
-ghost use Rattle.job.specs.Wanted.{wanted};
-ghost use Rattle.report_text.specs.Report.{letterOf, classText};
+ghost use Rattle.report_text.specs.Report.{letterOf, classLines};
 ghost use Rattle.report_text.specs.Parts.{numbersShown, verdictText, wantedText};
 use crate::lines::put_line;
 use faults::Fault;
@@ -111,10 +110,9 @@ pub fn put_classes(
 ) -> usize
     requires { ⌜ Sound lines (now gates) ⌝ }
     requires { ⌜ All (λ x. x < 2 ^ lines) (now vectors) ⌝ }
-    requires { ⌜ at + length (each (classText lines (gatesOf (now gates)) (now vectors)) (wanted classes)) ≤ length (now out) ⌝ }
-    ensures { λ r. ⌜ (r ≡ at + length (each (classText lines (gatesOf (now (gates .entry))) (now (vectors .entry))) (wanted classes)))
-        × (now (out .exit) ≡ sets (now (out .entry)) at
-        (each (classText lines (gatesOf (now (gates .entry))) (now (vectors .entry))) (wanted classes))) ⌝ }
+    requires { ⌜ at + length (classLines lines classes (now gates) (now vectors)) ≤ length (now out) ⌝ }
+    ensures { λ r. ⌜ (r ≡ at + length (classLines lines classes (now (gates .entry)) (now (vectors .entry))))
+        × (now (out .exit) ≡ sets (now (out .entry)) at (classLines lines classes (now (gates .entry)) (now (vectors .entry)))) ⌝ }
 {
     let mut end = at;
     let mut class = 1;
