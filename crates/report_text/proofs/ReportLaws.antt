@@ -13,7 +13,6 @@ use Rattle.refusals.specs.Tables.Told.{answered, refused}
 use Rattle.refusals.specs.Checks.{fine}
 use Rattle.refusals.proofs.Tables.{refused-on, fine-on, fine-parts, after-fine, answered-fine, refused-rows}
 use Rattle.circuit.specs.Limits.{mostGates, mostVectors}
-use Rattle.circuit.specs.Gates.{gatesOf}
 use Rattle.circuit.specs.Sound.{Sound}
 use Rattle.circuit.proofs.GateLaws.{gates-count}
 use Rattle.circuit.proofs.RuleLaws.{VectorsOk}

@@ -1,9 +1,9 @@
 -- `report_text::put_report` meets its contract: what is read is refused, and has the refusal's line, or is
 -- the job whose text is put. Assumes nothing.
 use Prim.Native.Nat.{ℕ, _*_, _≤_}
-use mathlib.Core.Path.{_≡_, ap, sym, _∙_}
+use mathlib.Core.Path.{ap, sym, _∙_}
 use native.Mathlib.Omega.{arith}
-use lib.ListN.{length, take, replicate, length-replicate}
+use lib.ListN.{length, replicate, length-replicate}
 use lib.Seq.{length-take-le}
 use Rattle.circuit.specs.Limits.{mostGates, mostVectors}
 use Rattle.job.specs.Answers.{toldRead}
