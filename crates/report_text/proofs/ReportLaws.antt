@@ -155,9 +155,10 @@ module _ (bytes out : List ℕ) (end : ℕ) (is : end ≡ length (reportText byt
 -- ---- what callers may lean on
 
 -- a report that is told is no longer than the longest
-pub told-fits : (bytes room : List ℕ) (end : ℕ) → answered (end ∷ []) ≡ reportTells bytes room → end ≤ longestReport
+pub told-fits : (bytes : List ℕ) (room end : ℕ) → answered (end ∷ []) ≡ firstOf (reportRows bytes room) (answered (length (reportText bytes) ∷ []))
+    → end ≤ longestReport
 told-fits bytes room end e =
-    let w = answered-fine (reportRows bytes (length room)) (end ∷ []) (length (reportText bytes) ∷ []) e .0 in
+    let w = answered-fine (reportRows bytes room) (end ∷ []) (length (reportText bytes) ∷ []) e .0 in
     let same : end ≡ length (reportText bytes) = cc in
     omega (arith, same, report-fits bytes)
 
