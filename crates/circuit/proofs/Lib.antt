@@ -7,3 +7,4 @@ pub mod StepLaws
 pub mod NoControlLaws
 pub mod StopLaws
 pub mod LineLaws
+pub mod WordLaws

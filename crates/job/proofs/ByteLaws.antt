@@ -1,12 +1,12 @@
 -- Laws of numbers as bytes: what code makes of them, and that a number and its bytes say the same.
 use Prim.Native.Nat.{ℕ, zero, suc, _+_, _-_, _*_, _/_, _%_, _^_, _<_, _≤_}
-use mathlib.Core.Path.{_≡_, refl, ap, _∙_}
-use mathlib.Core.List.{List, [], _∷_, _++_, append-nil}
+use mathlib.Core.Path.{_≡_, refl, ap}
+use mathlib.Core.List.{List}
 use native.Mathlib.Numerals.{add-one}
 use native.Mathlib.Omega.{arith}
 use native.Mathlib.Nat.{pow-suc}
 use lib.ListN.{length, getD, drop, set, drop-of-length-le}
-use lib.Seq.{drop-cons, sets, sets-eq}
+use lib.Seq.{drop-cons, sets}
 use Rattle.basics.specs.Lists.{each}
 use Rattle.basics.proofs.PutLaws.{sets-append, sets-all}
 use Rattle.job.specs.Bytes.{bytesOf, numberAt, wordsAt}

@@ -4,24 +4,25 @@ use mathlib.Core.Path.{_≡_, refl, sym, ap, _∙_}
 use mathlib.Core.List.{List, [], _∷_, _++_}
 use native.Mathlib.Omega.{arith}
 use lib.ListN.{length, take, drop, length-append}
-use lib.Seq.{sets, take-at}
-use Rattle.basics.specs.Lists.{each}
+use lib.Seq.{sets, take-at, length-take-le}
+use Rattle.basics.specs.Lists.{each, onto}
 use Rattle.basics.proofs.Lists.{length-each}
-use Rattle.job.specs.Bytes.{bytesOf, numberAt, wordsAt}
-use Rattle.job.specs.Image.{header, rowBytes, gateCount, image, gatesIn, vectorsIn, gateWords, vectorWords}
+use Rattle.job.specs.Bytes.{bytesOf, wordsAt}
+use Rattle.job.specs.Image.{headerLength, pastGates, pastVectors, header, rowBytes, gateCount, image}
+use Rattle.job.specs.Image.{gatesIn, vectorsIn, gateWords, vectorWords}
 use Rattle.basics.proofs.PutLaws.{sets-append, sets-front}
 use Rattle.job.proofs.ByteLaws.{length-bytes, length-words}
 
 -- ---- lengths
 
-pub length-header : (n k d m : ℕ) → length (each rowBytes (header n k d m)) ≡ 28
+pub length-header : (n k d m : ℕ) → length (each rowBytes (header n k d m)) ≡ headerLength
 unfolding header rowBytes each bytesOf
 length-header n k d m = refl
 
 pub length-words-bytes : (words : List ℕ) → length (each (bytesOf 4) words) ≡ 4 * length words
 length-words-bytes words = length-each (bytesOf 4) 4 (length-bytes 4) words ∙ omega arith
 
-pub length-image : (n k : ℕ) (words xs : List ℕ) → length (image n k words xs) ≡ 28 + 4 * length words + 4 * length xs
+pub length-image : (n k : ℕ) (words xs : List ℕ) → length (image n k words xs) ≡ headerLength + 4 * length words + 4 * length xs
 unfolding image
 length-image n k words xs =
     let front : List ℕ = each rowBytes (header n k (gateCount words) (length xs)) in
@@ -38,49 +39,51 @@ length-image n k words xs =
 
 pub put-header : (l : List ℕ) (n k d m : ℕ)
     → sets (sets (sets (sets (sets l 0 (bytesOf 2 1)) 2 (bytesOf 2 n)) 4 (bytesOf 2 k)) 6 (bytesOf 2 0)) 8
-    (each (bytesOf 4) (d ∷ m ∷ 28 ∷ (28 + 12 * d) ∷ (28 + 12 * d + 4 * m) ∷ []))
+    (each (bytesOf 4) (d ∷ m ∷ headerLength ∷ pastGates d ∷ pastVectors d m ∷ []))
     ≡ sets l 0 (each rowBytes (header n k d m))
 unfolding header rowBytes each bytesOf
 put-header l n k d m = refl
 
-pub put-image : (l : List ℕ) (n k : ℕ) (words xs : List ℕ) → length (image n k words xs) ≤ length l
-    → sets (sets (sets l 0 (each rowBytes (header n k (gateCount words) (length xs)))) 28 (each (bytesOf 4) words)) (28 + 4 * length words)
-    (each (bytesOf 4) xs)
-    ≡ image n k words xs ++ drop (length (image n k words xs)) l
+pub put-image : (l headed gated last : List ℕ) (n k : ℕ) (words xs : List ℕ) → length (image n k words xs) ≤ length l
+    → headed ≡ sets l 0 (each rowBytes (header n k (gateCount words) (length xs)))
+    → gated ≡ sets headed headerLength (each (bytesOf 4) words)
+    → last ≡ sets gated (headerLength + 4 * length words) (each (bytesOf 4) xs)
+    → last ≡ onto (image n k words xs) l
 unfolding image
-put-image l n k words xs h =
+put-image l headed gated last n k words xs h p q r =
     let front : List ℕ = each rowBytes (header n k (gateCount words) (length xs)) in
     let e = length-header n k (gateCount words) (length xs) in
-    sets-append (sets l 0 front) 28 (28 + 4 * length words) (each (bytesOf 4) words) (each (bytesOf 4) xs) (omega (arith, length-words-bytes words))
-    ∙ sets-append l 0 28 front (each (bytesOf 4) words ++ each (bytesOf 4) xs) (omega arith)
-    ∙ sets-front l (image n k words xs) h
+    rw (r, q, p)
+    (sets-append (sets l 0 front) headerLength (headerLength + 4 * length words) (each (bytesOf 4) words) (each (bytesOf 4) xs)
+    (omega (arith, length-words-bytes words))
+    ∙ sets-append l 0 headerLength front (each (bytesOf 4) words ++ each (bytesOf 4) xs) (omega arith)
+    ∙ sets-front l (image n k words xs) h)
 
 -- ---- the words that code reads
 
-pub gate-words : (bytes : List ℕ) (words : ℕ) → words ≡ 3 * gatesIn bytes → wordsAt words bytes 28 ≡ gateWords bytes
-unfolding gateWords
-gate-words bytes words e = rw e
-
-pub vector-words : (bytes : List ℕ) (count at : ℕ) → count ≡ vectorsIn bytes → at ≡ 28 + 12 * gatesIn bytes
-    → wordsAt count bytes at ≡ vectorWords bytes
-unfolding vectorWords
-vector-words bytes count at e p = rw (e, p)
-
 pub length-gate-words : (bytes : List ℕ) → length (gateWords bytes) ≡ 3 * gatesIn bytes
 unfolding gateWords
-length-gate-words bytes = length-words (3 * gatesIn bytes) bytes 28
+length-gate-words bytes = length-words (3 * gatesIn bytes) bytes headerLength
 
 pub length-vector-words : (bytes : List ℕ) → length (vectorWords bytes) ≡ vectorsIn bytes
 unfolding vectorWords
-length-vector-words bytes = length-words (vectorsIn bytes) bytes (28 + 12 * gatesIn bytes)
+length-vector-words bytes = length-words (vectorsIn bytes) bytes (pastGates (gatesIn bytes))
+
+-- a list that they are read into the front of
+pub gates-onto : (bytes out last : List ℕ) (d : ℕ) → d ≡ gatesIn bytes → 3 * d ≤ length out
+    → last ≡ wordsAt (length (take (3 * d) out)) bytes headerLength → last ++ drop (3 * d) out ≡ onto (gateWords bytes) out
+unfolding gateWords
+gates-onto bytes out last d e h p = rw (p, length-take-le (3 * d) out h, e, length-words (3 * gatesIn bytes) bytes headerLength)
+
+pub vectors-onto : (bytes out last : List ℕ) (m at : ℕ) → m ≡ vectorsIn bytes → at ≡ pastGates (gatesIn bytes) → m ≤ length out
+    → last ≡ wordsAt (length (take m out)) bytes at → last ++ drop m out ≡ onto (vectorWords bytes) out
+unfolding vectorWords
+vectors-onto bytes out last m at e f h p = rw (p, length-take-le m out h, e, f, length-words (vectorsIn bytes) bytes (pastGates (gatesIn bytes)))
 
 -- the front of a list that they were read into
-pub gates-front : (bytes out rest : List ℕ) (d : ℕ) → out ≡ gateWords bytes ++ rest → d ≡ numberAt 4 bytes 8 → take (3 * d) out ≡ gateWords bytes
-unfolding gateWords gatesIn
-gates-front bytes out rest d e p = ap (take (3 * d)) e
-    ∙ take-at (gateWords bytes) rest (3 * d) (length-words (3 * gatesIn bytes) bytes 28 ∙ ap (λ i. 3 * i) (sym p))
+pub gates-front : (bytes out rest : List ℕ) (d : ℕ) → out ≡ gateWords bytes ++ rest → d ≡ gatesIn bytes → take (3 * d) out ≡ gateWords bytes
+gates-front bytes out rest d e p =
+    ap (take (3 * d)) e ∙ take-at (gateWords bytes) rest (3 * d) (length-gate-words bytes ∙ ap (λ i. 3 * i) (sym p))
 
-pub vectors-front : (bytes out rest : List ℕ) (m : ℕ) → out ≡ vectorWords bytes ++ rest → m ≡ numberAt 4 bytes 12 → take m out ≡ vectorWords bytes
-unfolding vectorWords vectorsIn
-vectors-front bytes out rest m e p = ap (take m) e
-    ∙ take-at (vectorWords bytes) rest m (length-words (vectorsIn bytes) bytes (28 + 12 * gatesIn bytes) ∙ sym p)
+pub vectors-front : (bytes out rest : List ℕ) (m : ℕ) → out ≡ vectorWords bytes ++ rest → m ≡ vectorsIn bytes → take m out ≡ vectorWords bytes
+vectors-front bytes out rest m e p = ap (take m) e ∙ take-at (vectorWords bytes) rest m (length-vector-words bytes ∙ sym p)

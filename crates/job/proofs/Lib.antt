@@ -1,9 +1,11 @@
 pub mod ByteLaws
-pub mod RuleLaws
 pub mod ImageLaws
 pub mod NumberLaws
-pub mod AnswerLaws
-pub mod FitLaws
-pub mod RoundTrip
-pub mod LongLaws
+pub mod TurnLaws
+pub mod HeaderLaws
+pub mod ReadLaws
 pub mod WriteLaws
+pub mod RoundTrip
+pub mod AnswerLaws
+pub mod LongLaws
+pub mod ReadBackLaws

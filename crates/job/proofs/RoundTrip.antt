@@ -11,14 +11,16 @@ use Rattle.basics.specs.Lists.{each, All}
 use Rattle.refusals.specs.Tables.{firstOf}
 use Rattle.refusals.specs.Checks.{fine}
 use Rattle.circuit.specs.Rules.{firstBadGate, firstBadVector}
+use Rattle.circuit.proofs.WordLaws.{words-fit, words-whole, vectors-fit}
 use Rattle.job.specs.Bytes.{bytesOf, wordsAt}
-use Rattle.job.specs.Image.{header, rowBytes, gateCount, image, linesIn, classesIn, gatesIn, vectorsIn, gateWords, vectorWords}
+use Rattle.job.specs.Image.{headerLength, pastGates, header, rowBytes, gateCount, image}
+use Rattle.job.specs.Image.{linesIn, classesIn, gatesIn, vectorsIn, gateWords, vectorWords}
 use Rattle.job.specs.Rules.{readRows, writeRows}
-use Rattle.job.proofs.ByteLaws.{length-words}
-use Rattle.job.proofs.ImageLaws.{length-header, length-words-bytes, length-image}
+use Rattle.job.proofs.ImageLaws.{length-header, length-words-bytes, length-image, length-gate-words, length-vector-words}
 use Rattle.job.proofs.NumberLaws.{Bytes, Placed, Stands, rows-there, words-there, words-on, rows-on}
-use Rattle.job.proofs.FitLaws.{gates-fit, gates-whole, vectors-fit}
-use Rattle.job.proofs.RuleLaws.{HeaderOk, ReadOk, JobOk, read-ok, ok-read, write-ok}
+use Rattle.job.proofs.HeaderLaws.{HeaderOk}
+use Rattle.job.proofs.ReadLaws.{ReadOk, read-ok, ok-read}
+use Rattle.job.proofs.WriteLaws.{JobOk, write-ok}
 
 -- ---- what an image holds
 
@@ -32,6 +34,11 @@ pub record Holds (bytes : List ℕ) (n k : ℕ) (words xs : List ℕ) : Type 0 w
   pub vector-words : vectorWords bytes ≡ xs
 
 module _ (n k : ℕ) (words xs : List ℕ) (ok : JobOk n k words xs) where
+  -- no word is left over
+  gates-whole : 3 * gateCount words ≡ length words
+  unfolding gateCount
+  gates-whole = words-whole n words (ok .gates-good)
+
   placed : Placed 0 (header n k (gateCount words) (length xs))
   unfolding header
   placed = search needs
@@ -52,11 +59,11 @@ module _ (n k : ℕ) (words xs : List ℕ) (ok : JobOk n k words xs) where
   image-gate-words : gateWords (image n k words xs) ≡ words
   unfolding gateWords image
   image-gate-words =
-      let e : 3 * gatesIn (image n k words xs) ≡ length words = omega (arith, image-gates, gates-whole n words (ok .gates-good)) in
-      ap (λ c. wordsAt c (image n k words xs) 28) e
-      ∙ words-there (each rowBytes (header n k (gateCount words) (length xs))) words (each (bytesOf 4) xs) 28
+      let e : 3 * gatesIn (image n k words xs) ≡ length words = omega (arith, image-gates, gates-whole) in
+      ap (λ c. wordsAt c (image n k words xs) headerLength) e
+      ∙ words-there (each rowBytes (header n k (gateCount words) (length xs))) words (each (bytesOf 4) xs) headerLength
       (length-header n k (gateCount words) (length xs))
-      (gates-fit n words (ok .gates-good) (ok .lines-fit))
+      (words-fit n words (ok .gates-good) (ok .lines-fit))
 
   image-vector-words : vectorWords (image n k words xs) ≡ xs
   unfolding vectorWords image
@@ -64,7 +71,7 @@ module _ (n k : ℕ) (words xs : List ℕ) (ok : JobOk n k words xs) where
       let front : List ℕ = each rowBytes (header n k (gateCount words) (length xs)) in
       let gs : List ℕ = each (bytesOf 4) words in
       let vs : List ℕ = each (bytesOf 4) xs in
-      let at : length (front ++ gs) ≡ 28 + 12 * gatesIn (image n k words xs) =
+      let at : length (front ++ gs) ≡ pastGates (gatesIn (image n k words xs)) =
       omega (
         arith,
         length-append front gs,
@@ -72,12 +79,12 @@ module _ (n k : ℕ) (words xs : List ℕ) (ok : JobOk n k words xs) where
             (length xs),
         length-words-bytes words,
         image-gates,
-        gates-whole n words (ok .gates-good),
+        gates-whole,
       ) in
       let e : image n k words xs ≡ (front ++ gs) ++ (vs ++ []) = sym
       (append-assoc front gs (vs ++ []) ∙ ap (λ r. front ++ (gs ++ r)) (append-nil vs)) in
-      ap₂ (λ c b. wordsAt c b (28 + 12 * gatesIn (image n k words xs))) image-vectors e
-      ∙ words-there (front ++ gs) xs [] (28 + 12 * gatesIn (image n k words xs)) at (vectors-fit n xs (ok .lines-fit) (ok .vectors-good))
+      ap₂ (λ c b. wordsAt c b (pastGates (gatesIn (image n k words xs)))) image-vectors e
+      ∙ words-there (front ++ gs) xs [] (pastGates (gatesIn (image n k words xs))) at (vectors-fit n xs (ok .lines-fit) (ok .vectors-good))
 
   holds : Holds (image n k words xs) n k words xs
   unfolding linesIn classesIn header
@@ -95,7 +102,7 @@ module _ (n k : ℕ) (words xs : List ℕ) (ok : JobOk n k words xs) where
   image-head =
       let h = holds in
       let l = length-image n k words xs in
-      let whole = gates-whole n words (ok .gates-good) in
+      let whole = gates-whole in
       let s = header-stands in
       record {
         long = omega arith;
@@ -128,31 +135,27 @@ module _ (n k : ℕ) (words xs : List ℕ) (ok : JobOk n k words xs) where
 -- ---- the image of what some bytes hold, from the back to the front
 
 gate-count : (bytes : List ℕ) → gateCount (gateWords bytes) ≡ gatesIn bytes
-unfolding gateCount gateWords
-gate-count bytes = let l = length-words (3 * gatesIn bytes) bytes 28 in omega arith
-
-vector-count : (bytes : List ℕ) → length (vectorWords bytes) ≡ vectorsIn bytes
-unfolding vectorWords
-vector-count bytes = length-words (vectorsIn bytes) bytes (28 + 12 * gatesIn bytes)
+unfolding gateCount
+gate-count bytes = let l = length-gate-words bytes in omega arith
 
 module _ (bytes : List ℕ) (h : HeaderOk bytes) (w : Bytes bytes) where
-  vectors-back : each (bytesOf 4) (vectorWords bytes) ≡ drop (28 + 12 * gatesIn bytes) bytes
+  vectors-back : each (bytesOf 4) (vectorWords bytes) ≡ drop (pastGates (gatesIn bytes)) bytes
   unfolding vectorWords
   vectors-back =
       let vs : List ℕ = each (bytesOf 4) (vectorWords bytes) in
       sym (ap (λ r. vs ++ r) (drop-length bytes) ∙ append-nil vs)
-      ∙ words-on (vectorsIn bytes) bytes (28 + 12 * gatesIn bytes) (length bytes) w (omega arith) (omega arith)
+      ∙ words-on (vectorsIn bytes) bytes (pastGates (gatesIn bytes)) (length bytes) w (omega arith) (omega arith)
 
-  content-back : each (bytesOf 4) (gateWords bytes) ++ each (bytesOf 4) (vectorWords bytes) ≡ drop 28 bytes
+  content-back : each (bytesOf 4) (gateWords bytes) ++ each (bytesOf 4) (vectorWords bytes) ≡ drop headerLength bytes
   unfolding gateWords
   content-back =
       ap (λ r. each (bytesOf 4) (gateWords bytes) ++ r) vectors-back
-      ∙ words-on (3 * gatesIn bytes) bytes 28 (28 + 12 * gatesIn bytes) w (omega arith) (omega arith)
+      ∙ words-on (3 * gatesIn bytes) bytes headerLength (pastGates (gatesIn bytes)) w (omega arith) (omega arith)
 
-  header-back : each rowBytes (header (linesIn bytes) (classesIn bytes) (gatesIn bytes) (vectorsIn bytes)) ++ drop 28 bytes ≡ bytes
+  header-back : each rowBytes (header (linesIn bytes) (classesIn bytes) (gatesIn bytes) (vectorsIn bytes)) ++ drop headerLength bytes ≡ bytes
   unfolding header linesIn classesIn gatesIn vectorsIn
   header-back =
-      rows-on bytes (header (linesIn bytes) (classesIn bytes) (gatesIn bytes) (vectorsIn bytes)) 0 28 w
+      rows-on bytes (header (linesIn bytes) (classesIn bytes) (gatesIn bytes) (vectorsIn bytes)) 0 headerLength w
       (h .form, (refl, (refl, (h .nothing, (refl, (refl, (h .gates-at, (h .vectors-at, (h .end-at, refl)))))))))
       (h .long)
 
@@ -175,7 +178,7 @@ unfolding image
 written-read bytes gateRoom vectorRoom w e =
     let h = read-ok bytes gateRoom vectorRoom e .head in
     let d = gate-count bytes in
-    let m = vector-count bytes in
+    let m = length-vector-words bytes in
     rw (d, m) (ap (λ r. each rowBytes (header (linesIn bytes) (classesIn bytes) (gatesIn bytes) (vectorsIn bytes)) ++ r)
     (content-back bytes h w) ∙ header-back bytes h w)
 

@@ -3,7 +3,23 @@ use Prim.Native.Nat.{ℕ, _+_, _*_, _/_}
 use mathlib.Core.List.{List, [], _∷_, _++_}
 use lib.ListN.{length}
 use Rattle.basics.specs.Lists.{each}
+use Rattle.circuit.specs.Limits.{mostGates, mostVectors}
 use Rattle.job.specs.Bytes.{bytesOf, numberAt, wordsAt}
+
+-- how many bytes the header has
+abbrev pub headerLength : ℕ
+headerLength = 28
+
+-- where d gates end and the vectors begin, and where m vectors end
+abbrev pub pastGates : ℕ → ℕ
+pastGates d = headerLength + 12 * d
+
+abbrev pub pastVectors : ℕ → ℕ → ℕ
+pastVectors d m = pastGates d + 4 * m
+
+-- how many bytes the longest job has
+abbrev pub longestJob : ℕ
+longestJob = pastVectors mostGates mostVectors
 
 infix 68 byte_wide_holds_
 -- a row of the header: at which byte it stands, how many bytes wide it is, and what it holds
@@ -25,9 +41,9 @@ header n classes d m =
     byte 8 wide 4 holds d ∷
     byte 12 wide 4 holds m ∷
     -- offset of gates, offset of vectors, length of all
-    byte 16 wide 4 holds 28 ∷
-    byte 20 wide 4 holds (28 + 12 * d) ∷
-    byte 24 wide 4 holds (28 + 12 * d + 4 * m) ∷ []
+    byte 16 wide 4 holds headerLength ∷
+    byte 20 wide 4 holds pastGates d ∷
+    byte 24 wide 4 holds pastVectors d m ∷ []
 
 unfoldable pub rowBytes : HeaderRow → List ℕ
 rowBytes (byte at wide width holds value) = bytesOf width value
@@ -55,7 +71,7 @@ vectorsIn bytes = numberAt 4 bytes 12
 
 -- its gates, three words each, and its vectors
 unfoldable pub gateWords : List ℕ → List ℕ
-gateWords bytes = wordsAt (3 * gatesIn bytes) bytes 28
+gateWords bytes = wordsAt (3 * gatesIn bytes) bytes headerLength
 
 unfoldable pub vectorWords : List ℕ → List ℕ
-vectorWords bytes = wordsAt (vectorsIn bytes) bytes (28 + 12 * gatesIn bytes)
+vectorWords bytes = wordsAt (vectorsIn bytes) bytes (pastGates (gatesIn bytes))

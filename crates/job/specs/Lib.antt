@@ -1,6 +1,7 @@
 pub mod Bytes
 pub mod Image
 pub mod Rules
-pub mod Parts
+pub mod Turns
 pub mod Answers
+pub mod Wanted
 pub mod Promises

@@ -1,15 +1,21 @@
 // The job image: jobs read out of bytes and written into bytes.
 ghost use mathlib.Core.Path.{_≡_};
-ghost use Prim.Native.Nat.{_≤_};
+ghost use Prim.Native.Nat.{_*_, _≤_};
 ghost use lib.ListN.{length};
+ghost use Rattle.circuit.specs.Limits.{mostGates, mostVectors};
 ghost use Rattle.job.specs.Promises.{readTells, gatesAfterRead, vectorsAfterRead, writeTells, roomAfterWrite};
 ghost use Rattle.job.specs.Answers.{toldRead, toldWritten};
+use circuit::limits::GATE_WORDS;
+use circuit::limits::MOST_VECTORS;
 use refusals::Checked;
 use refusals::Refusal;
 
 mod bytes;
+mod header;
+pub mod limits;
 mod reading;
 mod rules;
+pub mod wanted;
 mod writing;
 
 // A job that was read: its lines, the classes wanted, its numbers of gates and vectors.
@@ -35,8 +41,8 @@ pub fn read_job(bytes: &[u8], gates: &mut [u32], vectors: &mut [u32]) -> Read
         × ((now (gates .exit) ≡ gatesAfterRead (now (bytes .entry)) (now (gates .entry)) (now (vectors .entry)))
         × (now (vectors .exit) ≡ vectorsAfterRead (now (bytes .entry)) (now (gates .entry)) (now (vectors .entry)))) ⌝ }
 {
-    let mut own_gates = [0u32; 3072];
-    let mut own_vectors = [0u32; 2048];
+    let mut own_gates = [0u32; GATE_WORDS];
+    let mut own_vectors = [0u32; MOST_VECTORS];
     read_by_own(bytes, &mut own_gates, &mut own_vectors, gates, vectors)
 }
 
@@ -48,7 +54,7 @@ fn read_by_own(
     gates: &mut [u32],
     vectors: &mut [u32],
 ) -> Read
-    requires { ⌜ (3072 ≤ length (now «own_gates»)) × (2048 ≤ length (now «own_vectors»)) ⌝ }
+    requires { ⌜ (3 * mostGates ≤ length (now «own_gates»)) × (mostVectors ≤ length (now «own_vectors»)) ⌝ }
     ensures { λ r. ⌜ (toldRead r ≡ readTells (now (bytes .entry)) (now (gates .entry)) (now (vectors .entry)))
         × ((now (gates .exit) ≡ gatesAfterRead (now (bytes .entry)) (now (gates .entry)) (now (vectors .entry)))
         × (now (vectors .exit) ≡ vectorsAfterRead (now (bytes .entry)) (now (gates .entry)) (now (vectors .entry)))) ⌝ }

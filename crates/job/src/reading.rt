@@ -1,26 +1,28 @@
 // A job read into lists.
 ghost use mathlib.Core.Path.{_≡_};
-ghost use Prim.Native.Nat.{_+_, _*_, _≤_};
+ghost use Prim.Native.Nat.{_*_, _≤_};
 ghost use lib.ListN.{length};
 ghost use Rattle.basics.specs.Lists.{onto};
 ghost use Rattle.refusals.specs.Tables.{firstOf};
 ghost use Rattle.refusals.specs.Checks.{fine};
-ghost use Rattle.job.specs.Image.{linesIn, classesIn, gatesIn, vectorsIn, gateWords, vectorWords};
+ghost use Rattle.job.specs.Image.{pastVectors, linesIn, classesIn, gatesIn, vectorsIn, gateWords, vectorWords};
 ghost use Rattle.job.specs.Rules.{readRows};
 use crate::Read;
 use crate::bytes;
+use crate::header;
+use crate::limits::HEADER;
 
 // The gates and the vectors of an image that holds as many as its header says.
 pub fn read_lists(image: &[u8], gates: &mut [u32], vectors: &mut [u32])
-    requires { ⌜ length (now image) ≡ 28 + 12 * gatesIn (now image) + 4 * vectorsIn (now image) ⌝ }
+    requires { ⌜ length (now image) ≡ pastVectors (gatesIn (now image)) (vectorsIn (now image)) ⌝ }
     requires { ⌜ (3 * gatesIn (now image) ≤ length (now gates)) × (vectorsIn (now image) ≤ length (now vectors)) ⌝ }
     ensures { λ _. ⌜ (now (gates .exit) ≡ onto (gateWords (now (image .entry))) (now (gates .entry)))
         × (now (vectors .exit) ≡ onto (vectorWords (now (image .entry))) (now (vectors .entry))) ⌝ }
 {
-    let words = 3 * (bytes::number_at_4(image, 8) as usize);
-    let count = bytes::number_at_4(image, 12) as usize;
-    bytes::read_words(image, 28, &mut gates[..words]);
-    bytes::read_words(image, 28 + 4 * words, &mut vectors[..count]);
+    let words = 3 * (header::gates_in(image) as usize);
+    let count = header::vectors_in(image) as usize;
+    bytes::read_words(image, HEADER, &mut gates[..words]);
+    bytes::read_words(image, HEADER + 4 * words, &mut vectors[..count]);
 }
 
 // The job of an image that breaks no rule.
@@ -33,9 +35,9 @@ pub fn read_image(image: &[u8], gates: &mut [u32], vectors: &mut [u32]) -> Read
 {
     read_lists(image, gates, vectors);
     Read::Job {
-        lines: bytes::number_at_2(image, 2),
-        classes: bytes::number_at_2(image, 4),
-        gates: bytes::number_at_4(image, 8),
-        vectors: bytes::number_at_4(image, 12),
+        lines: header::lines_in(image),
+        classes: header::classes_in(image),
+        gates: header::gates_in(image),
+        vectors: header::vectors_in(image),
     }
 }

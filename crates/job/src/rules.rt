@@ -1,28 +1,26 @@
 // The rules of a job, read and written: a check function for each table.
 ghost use mathlib.Core.Path.{_≡_};
 ghost use mathlib.Core.Bool.{not, _||_};
-ghost use Prim.Native.Nat.{_/_, _≤_};
+ghost use Prim.Native.Nat.{_*_, _/_, _≤_};
 ghost use lib.ListN.{length};
 ghost use lib.Dec.{eqb};
 ghost use Rattle.refusals.specs.Tables.{firstOf};
 ghost use Rattle.refusals.specs.Checks.{fine, found};
+ghost use Rattle.circuit.specs.Limits.{mostLines, mostGates, mostVectors};
 ghost use Rattle.job.specs.Bytes.{numberAt};
-ghost use Rattle.job.specs.Image.{classesIn};
-ghost use Rattle.job.specs.Rules.{badClasses, badSizes, readRows, writeRows, badLines, badCounts, headerRows, contentRows};
-ghost use Rattle.job.specs.Parts.{contentRowsIn, badRoom, sooner};
+ghost use Rattle.job.specs.Image.{headerLength, classesIn};
+ghost use Rattle.job.specs.Rules.{badClasses, badSizes, badRoom, headerRows, contentRows, contentRowsIn, readRows, writeRows};
+ghost use Rattle.job.specs.Turns.{sooner};
 use crate::bytes;
+use crate::header;
+use crate::limits::HEADER;
 use crate::reading;
 use circuit;
+use circuit::rules::bad_counts;
+use circuit::rules::bad_lines;
 use refusals;
 use refusals::Checked;
 use refusals::Refusal;
-
-// Whether the lines are none or above 32.
-fn bad_lines(lines: u32) -> bool
-    ensures { λ r. ⌜ r ≡ badLines lines ⌝ }
-{
-    lines < 1 || 32 < lines
-}
 
 // Whether the classes are none or above 15.
 fn bad_classes(classes: u32) -> bool
@@ -31,19 +29,12 @@ fn bad_classes(classes: u32) -> bool
     classes == 0 || 15 < classes
 }
 
-// Whether there are more gates or more vectors than a job may have.
-fn bad_counts(gates: usize, vectors: usize) -> bool
-    ensures { λ r. ⌜ r ≡ badCounts gates vectors ⌝ }
-{
-    1024 < gates || 2048 < vectors
-}
-
 // Whether the classes are bad or the two bytes after them hold something.
 fn bad_classes_in(image: &[u8]) -> bool
-    requires { ⌜ 28 ≤ length (now image) ⌝ }
+    requires { ⌜ headerLength ≤ length (now image) ⌝ }
     ensures { λ r. ⌜ r ≡ (badClasses (classesIn (now (image .entry))) || not (eqb (numberAt 2 (now (image .entry)) 6) 0)) ⌝ }
 {
-    if bad_classes(bytes::number_at_2(image, 4)) {
+    if bad_classes(header::classes_in(image)) {
         return true;
     }
     bytes::number_at_2(image, 6) != 0
@@ -51,17 +42,18 @@ fn bad_classes_in(image: &[u8]) -> bool
 
 // Whether an offset or the length is not as the counts say, or the bytes are not that many.
 fn bad_sizes(image: &[u8]) -> bool
-    requires { ⌜ 28 ≤ length (now image) ⌝ }
+    requires { ⌜ headerLength ≤ length (now image) ⌝ }
     ensures { λ r. ⌜ r ≡ badSizes (now (image .entry)) ⌝ }
 {
-    let gates = bytes::number_at_4(image, 8) as u64;
-    let vectors = bytes::number_at_4(image, 12) as u64;
-    let gates_at = bytes::number_at_4(image, 16);
+    let gates = header::gates_in(image) as u64;
+    let vectors = header::vectors_in(image) as u64;
+    let gates_at = bytes::number_at_4(image, 16) as u64;
     let vectors_at = bytes::number_at_4(image, 20) as u64;
     let end = bytes::number_at_4(image, 24) as u64;
-    let past_gates = 28 + 12 * gates;
+    let past_header = HEADER as u64;
+    let past_gates = past_header + 12 * gates;
     let past_vectors = past_gates + 4 * vectors;
-    if gates_at != 28 {
+    if gates_at != past_header {
         return true;
     }
     if vectors_at != past_gates {
@@ -77,7 +69,7 @@ fn bad_sizes(image: &[u8]) -> bool
 fn check_header(image: &[u8]) -> Checked
     ensures { λ r. ⌜ found r ≡ firstOf (headerRows (now (image .entry))) fine ⌝ }
 {
-    if image.len() < 28 {
+    if image.len() < HEADER {
         return Checked::Wrong(Refusal {
             number: 1,
             place: 0,
@@ -89,7 +81,7 @@ fn check_header(image: &[u8]) -> Checked
             place: 0,
         });
     }
-    if bad_lines(bytes::number_at_2(image, 2)) {
+    if bad_lines(header::lines_in(image)) {
         return Checked::Wrong(Refusal {
             number: 3,
             place: 0,
@@ -101,8 +93,8 @@ fn check_header(image: &[u8]) -> Checked
             place: 0,
         });
     }
-    let gates = bytes::number_at_4(image, 8) as usize;
-    let vectors = bytes::number_at_4(image, 12) as usize;
+    let gates = header::gates_in(image) as usize;
+    let vectors = header::vectors_in(image) as usize;
     if bad_counts(gates, vectors) {
         return Checked::Wrong(Refusal {
             number: 5,
@@ -124,7 +116,7 @@ fn sooner(first: Checked, second: Checked) -> Checked
 
 // Rules 7 and 8: a gate is told before a vector.
 fn check_content(lines: u32, gates: &[u32], vectors: &[u32]) -> Checked
-    requires { ⌜ (lines ≤ 32) × ((length (now gates) / 3 ≤ 1024) × (length (now vectors) ≤ 2048)) ⌝ }
+    requires { ⌜ (lines ≤ mostLines) × ((length (now gates) / 3 ≤ mostGates) × (length (now vectors) ≤ mostVectors)) ⌝ }
     ensures { λ r. ⌜ found r ≡ firstOf (contentRows lines (now (gates .entry)) (now (vectors .entry))) fine ⌝ }
 {
     let gate = circuit::rules::first_bad_gate(lines, gates);
@@ -137,23 +129,23 @@ fn check_content(lines: u32, gates: &[u32], vectors: &[u32]) -> Checked
 // Rules 7 and 8 of a job that is read, by lists of words that it is read into.
 fn check_read_into(image: &[u8], gates: &mut [u32], vectors: &mut [u32]) -> Checked
     requires { ⌜ fine ≡ firstOf (headerRows (now image)) fine ⌝ }
-    requires { ⌜ (3072 ≤ length (now gates)) × (2048 ≤ length (now vectors)) ⌝ }
+    requires { ⌜ (3 * mostGates ≤ length (now gates)) × (mostVectors ≤ length (now vectors)) ⌝ }
     ensures { λ r. ⌜ found r ≡ firstOf (contentRowsIn (now (image .entry))) fine ⌝ }
 {
     reading::read_lists(image, gates, vectors);
-    let lines = bytes::number_at_2(image, 2);
-    let words = 3 * (bytes::number_at_4(image, 8) as usize);
-    let count = bytes::number_at_4(image, 12) as usize;
+    let lines = header::lines_in(image);
+    let words = 3 * (header::gates_in(image) as usize);
+    let count = header::vectors_in(image) as usize;
     check_content(lines, &gates[..words], &vectors[..count])
 }
 
 // Whether room for so many words and so many vectors is too little for a job.
 fn bad_room(image: &[u8], words: usize, vectors: usize) -> bool
-    requires { ⌜ 28 ≤ length (now image) ⌝ }
+    requires { ⌜ headerLength ≤ length (now image) ⌝ }
     ensures { λ r. ⌜ r ≡ badRoom (now (image .entry)) words vectors ⌝ }
 {
-    let words_in = 3 * (bytes::number_at_4(image, 8) as usize);
-    let vectors_in = bytes::number_at_4(image, 12) as usize;
+    let words_in = 3 * (header::gates_in(image) as usize);
+    let vectors_in = header::vectors_in(image) as usize;
     words < words_in || vectors < vectors_in
 }
 
@@ -165,7 +157,7 @@ pub fn check_read(
     words: usize,
     count: usize,
 ) -> Checked
-    requires { ⌜ (3072 ≤ length (now gates)) × (2048 ≤ length (now vectors)) ⌝ }
+    requires { ⌜ (3 * mostGates ≤ length (now gates)) × (mostVectors ≤ length (now vectors)) ⌝ }
     ensures { λ r. ⌜ found r ≡ firstOf (readRows (now (image .entry)) words count) fine ⌝ }
 {
     if let Checked::Wrong(refusal) = check_header(image) {
@@ -201,6 +193,6 @@ pub fn check_write(lines: u32, classes: u32, gates: &[u32], vectors: &[u32], roo
         });
     }
     let content = check_content(lines, gates, vectors);
-    let fits = 28 + 4 * gates.len() + 4 * vectors.len() <= room;
+    let fits = HEADER + 4 * gates.len() + 4 * vectors.len() <= room;
     sooner(content, refusals::unless(fits, 10, 0))
 }

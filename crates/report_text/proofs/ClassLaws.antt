@@ -11,7 +11,6 @@ use lib.Dec.{eqb}
 use borrow.Author.Tests.{eq-eqb, ne-eqb}
 use Rattle.basics.specs.Lists.{upFrom, keep, each}
 use Rattle.basics.proofs.Tests.{by-test}
-use Rattle.words.specs.Word.{bit}
 use Rattle.refusals.specs.Tables.Told.{answered}
 use Rattle.circuit.specs.declared.Gate.{Gate}
 use Rattle.faults.specs.declared.Fault.{Fault}
@@ -21,10 +20,11 @@ use Rattle.marking.specs.Firsts.{firstTold}
 use Rattle.judge.specs.Answers.{toldVerdict}
 use Rattle.judge.specs.declared.Verdict.{Verdict}
 use Rattle.judge.specs.declared.Verdict.the-variants.{Complete, Left, Refused}
+use Rattle.job.specs.Wanted.{isWanted, wanted}
 use Rattle.basics.proofs.PutLaws.{sets-append}
-use Rattle.report_text.specs.Lines.{field, line}
-use Rattle.report_text.specs.Report.{letterOf, shown, firstText, classText, isWanted, wanted}
-use Rattle.report_text.specs.Parts.{okText, numbersLine, numbersOf, verdictText, wantedText}
+use Rattle.report_text.specs.Lines.{spaced, line}
+use Rattle.report_text.specs.Report.{letterOf, shown, firstText, classText}
+use Rattle.report_text.specs.Parts.{okText, numbersLine, numbersShown, verdictText, wantedText}
 
 -- ---- letters
 
@@ -41,63 +41,81 @@ module _ (class : ℕ) where
   unfolding letterOf
   letter-C e = rw e
 
-  pub letter-X : (class ≡ 1 → ⊥) → (class ≡ 2 → ⊥) → (class ≡ 3 → ⊥) → 88 ≡ letterOf class
+  pub letter-X : class ≡ 4 → 88 ≡ letterOf class
   unfolding letterOf
-  letter-X a b d = rw (ne-eqb class 1 a, ne-eqb class 2 b, ne-eqb class 3 d)
+  letter-X e = rw e
 
-  pub numbers-S : class ≡ 1 → 5 ≡ numbersOf class
-  unfolding numbersOf
+  pub letter-none : (class ≡ 1 → ⊥) → (class ≡ 2 → ⊥) → (class ≡ 3 → ⊥) → (class ≡ 4 → ⊥) → 63 ≡ letterOf class
+  unfolding letterOf
+  letter-none a b d e = rw (ne-eqb class 1 a, ne-eqb class 2 b, ne-eqb class 3 d, ne-eqb class 4 e)
+
+  pub numbers-S : class ≡ 1 → 5 ≡ numbersShown class
+  unfolding numbersShown
   numbers-S e = rw (eq-eqb class 1 e)
 
-  pub numbers-M : class ≡ 2 → 3 ≡ numbersOf class
-  unfolding numbersOf
+  pub numbers-M : class ≡ 2 → 3 ≡ numbersShown class
+  unfolding numbersShown
   numbers-M e = rw e
 
-  pub numbers-CX : (class ≡ 1 → ⊥) → (class ≡ 2 → ⊥) → 4 ≡ numbersOf class
-  unfolding numbersOf
-  numbers-CX a b = rw (ne-eqb class 1 a, ne-eqb class 2 b)
+  pub numbers-C : class ≡ 3 → 4 ≡ numbersShown class
+  unfolding numbersShown
+  numbers-C e = rw e
+
+  pub numbers-X : class ≡ 4 → 4 ≡ numbersShown class
+  unfolding numbersShown
+  numbers-X e = rw e
+
+  pub numbers-none : (class ≡ 1 → ⊥) → (class ≡ 2 → ⊥) → (class ≡ 3 → ⊥) → (class ≡ 4 → ⊥) → 2 ≡ numbersShown class
+  unfolding numbersShown
+  numbers-none a b d e = rw (ne-eqb class 1 a, ne-eqb class 2 b, ne-eqb class 3 d, ne-eqb class 4 e)
 
 -- ---- a verdict's text
 
 -- the numbers of a line with an uncaught fault are the front of all five
 numbers-front : (class a b : ℕ) (f : Fault)
-    → take (numbersOf class) (a ∷ b ∷ f .place ∷ f .line ∷ f .value ∷ []) ≡ a ∷ b ∷ shown class f
-unfolding numbersOf shown
-numbers-front class a b f = by-test (eqb class 1) (λ e. rw e) (λ e. by-test (eqb class 2) (λ k. rw (e, k)) (λ k. rw (e, k)))
+    → take (numbersShown class) (a ∷ b ∷ f .place ∷ f .line ∷ f .value ∷ []) ≡ a ∷ b ∷ shown class f
+unfolding numbersShown shown
+numbers-front class a b f =
+    by-test (eqb class 1) (λ e. rw e)
+    (λ e. by-test (eqb class 2) (λ k. rw (e, k))
+    (λ k. by-test (eqb class 3) (λ m. rw (e, k, m))
+    (λ m. by-test (eqb class 4) (λ p. rw (e, k, m, p)) (λ p. rw (e, k, m, p)))))
 
-pub numbers-most : (class : ℕ) → numbersOf class ≤ 5
-unfolding numbersOf
-numbers-most class = by-test (eqb class 1)
-    (λ e. rw e (omega arith))
-    (λ e. by-test (eqb class 2) (λ k. rw (e, k) (omega arith)) (λ k. rw (e, k) (omega arith)))
+pub numbers-most : (class : ℕ) → numbersShown class ≤ 5
+unfolding numbersShown
+numbers-most class =
+    by-test (eqb class 1) (λ e. rw e (omega arith))
+    (λ e. by-test (eqb class 2) (λ k. rw (e, k) (omega arith))
+    (λ k. by-test (eqb class 3) (λ m. rw (e, k, m) (omega arith))
+    (λ m. by-test (eqb class 4) (λ p. rw (e, k, m, p) (omega arith)) (λ p. rw (e, k, m, p) (omega arith)))))
 
-pub left-line : (class a b : ℕ) (f : Fault) (count letter : ℕ) → count ≡ numbersOf class → letter ≡ letterOf class
+pub left-line : (class a b : ℕ) (f : Fault) (count letter : ℕ) → count ≡ numbersShown class → letter ≡ letterOf class
     → numbersLine letter (take count (a ∷ b ∷ f .place ∷ f .line ∷ f .value ∷ [])) false ≡ numbersLine (letterOf class) (a ∷ b ∷ shown class f) false
 left-line class a b f count letter e l = rw (e, l, numbers-front class a b f)
 
--- two lists of fields are one
-fields-join : (xs ys : List ℕ) → each field xs ++ each field ys ≡ each field (xs ++ ys)
+-- two lists of numbers are put as one
+spaced-join : (xs ys : List ℕ) → each spaced xs ++ each spaced ys ≡ each spaced (xs ++ ys)
 unfolding each
-fields-join [] ys = refl
-fields-join (x ∷ xs) ys = append-assoc (field x) (each field xs) (each field ys) ∙ ap (λ rest. field x ++ rest) (fields-join xs ys)
+spaced-join [] ys = refl
+spaced-join (x ∷ xs) ys = append-assoc (spaced x) (each spaced xs) (each spaced ys) ∙ ap (λ rest. spaced x ++ rest) (spaced-join xs ys)
 
 -- the text of the list of uncaught faults, as the verdict tells the first
 module _ (class a b : ℕ) where
-  text-ok : line (letterOf class) (each field (a ∷ b ∷ []) ++ firstText class []) ≡ numbersLine (letterOf class) (a ∷ b ∷ []) true
+  text-ok : line (letterOf class) (each spaced (a ∷ b ∷ []) ++ firstText class []) ≡ numbersLine (letterOf class) (a ∷ b ∷ []) true
   unfolding firstText numbersLine okText
   text-ok = refl
 
   text-left : (f : Fault) (rest : List Fault)
-      → line (letterOf class) (each field (a ∷ b ∷ []) ++ firstText class (f ∷ rest)) ≡ numbersLine (letterOf class) (a ∷ b ∷ shown class f) false
+      → line (letterOf class) (each spaced (a ∷ b ∷ []) ++ firstText class (f ∷ rest)) ≡ numbersLine (letterOf class) (a ∷ b ∷ shown class f) false
   unfolding firstText numbersLine okText
-  text-left f rest = ap (line (letterOf class)) (fields-join (a ∷ b ∷ []) (shown class f) ∙ sym (append-nil (each field (a ∷ b ∷ shown class f))))
+  text-left f rest = ap (line (letterOf class)) (spaced-join (a ∷ b ∷ []) (shown class f) ∙ sym (append-nil (each spaced (a ∷ b ∷ shown class f))))
 
 shown-same : (class : ℕ) (f h : Fault) → f .place ≡ h .place → f .line ≡ h .line → f .value ≡ h .value → shown class f ≡ shown class h
 unfolding shown
 shown-same class f h p l v = rw (p, l, v)
 
 of-told : (class a b : ℕ) (rest : List Fault) (v : Verdict) → toldVerdict v ≡ answered (a ∷ b ∷ firstTold rest)
-    → verdictText class v ≡ line (letterOf class) (each field (a ∷ b ∷ []) ++ firstText class rest)
+    → verdictText class v ≡ line (letterOf class) (each spaced (a ∷ b ∷ []) ++ firstText class rest)
 of-told class a b [] (Complete c d) e =
     let p : c ≡ a = cc in
     let q : d ≡ b = cc in
@@ -118,12 +136,12 @@ verdict-text n gs xs class v e = of-told class _ _ _ v e
 -- ---- the classes wanted, one a turn
 
 module _ (n : ℕ) (gs : List Gate) (xs : List ℕ) (classes : ℕ) where
-  pub not-wanted : (class : ℕ) → bit classes (class - 1) ≡ 0 → [] ≡ wantedText n gs xs classes class
-  unfolding wantedText isWanted
+  pub not-wanted : (class : ℕ) → isWanted classes class ≡ false → [] ≡ wantedText n gs xs classes class
+  unfolding wantedText
   not-wanted class e = rw e
 
-  pub is-wanted : (class : ℕ) → bit classes (class - 1) ≡ 1 → classText n gs xs class ≡ wantedText n gs xs classes class
-  unfolding wantedText isWanted
+  pub is-wanted : (class : ℕ) → isWanted classes class ≡ true → classText n gs xs class ≡ wantedText n gs xs classes class
+  unfolding wantedText
   is-wanted class e = rw e
 
   kept-text : (list : List ℕ) → each (classText n gs xs) (keep (isWanted classes) list) ≡ each (wantedText n gs xs classes) list

@@ -12,6 +12,7 @@ use borrow.Author.Tests.{eq-eqb}
 use Rattle.basics.specs.Lists.{All, upFrom, keep, each}
 use Rattle.basics.proofs.Lists.{keep-le, all-keep}
 use Rattle.basics.proofs.Tests.{by-test}
+use Rattle.circuit.specs.Limits.{mostLines, mostGates, mostVectors, levels}
 use Rattle.circuit.specs.Gates.{gatesOf}
 use Rattle.circuit.specs.Sound.{Sound, AllOk}
 use Rattle.circuit.specs.declared.Gate.{Gate}
@@ -23,14 +24,15 @@ use Rattle.faults.proofs.ClassLists.{list-one, list-two, list-three, list-four}
 use Rattle.faults.proofs.ClassParts.{all-stuck, all-missing-gates, all-missing-controls, all-extra-controls}
 use Rattle.faults.proofs.ClassCounts.{length-missing-gates, length-controls}
 use Rattle.faults.proofs.SiteCount.{length-stuck}
+use Rattle.job.specs.Wanted.{isWanted, wanted}
 use Rattle.text.specs.Decimal.{decimalIn, decimal}
-use Rattle.report_text.specs.Lines.{field, line}
-use Rattle.report_text.specs.Report.{letterOf, shown, firstText, classText, isWanted, wanted, jobText, refusedText}
+use Rattle.report_text.specs.Lines.{spaced, line}
+use Rattle.report_text.specs.Report.{letterOf, shown, firstText, classText, jobLine, classLines, jobText, refusedText, longestReport}
 use Rattle.report_text.specs.Parts.{wantedText}
 use Rattle.text.proofs.TextLaws.{enough, digits-most}
 use Rattle.report_text.proofs.ClassLaws.{wanted-text}
 
--- ---- fields
+-- ---- numbers
 
 fewer : (more places x : ℕ) → 1 ≤ places → x < 10 ^ places → length (decimalIn (more + places) x) ≤ places
 fewer zero places x p h = let e : 0 + places ≡ places = omega arith in rw e (digits-most places x)
@@ -38,13 +40,13 @@ fewer (suc more) places x p h =
     let e : suc more + places ≡ suc (more + places) = omega arith in
     rw (e, enough (more + places) x (omega arith) (le-trans h (pow-le-pow-right (omega arith) (omega arith)))) (fewer more places x p h)
 
-field-fits : (more places x : ℕ) → more + places ≡ 10 → 1 ≤ places → x < 10 ^ places → length (field x) ≤ 1 + places
-unfolding field decimal
-field-fits more places x e p h = let w = fewer more places x p h in omega (arith, rw e at w)
+spaced-fits : (more places x : ℕ) → more + places ≡ 10 → 1 ≤ places → x < 10 ^ places → length (spaced x) ≤ 1 + places
+unfolding spaced decimal
+spaced-fits more places x e p h = let w = fewer more places x p h in omega (arith, rw e at w)
 
-fields-two : (a b : ℕ) → length (each field (a ∷ b ∷ [])) ≡ length (field a) + length (field b)
+spaced-two : (a b : ℕ) → length (each spaced (a ∷ b ∷ [])) ≡ length (spaced a) + length (spaced b)
 unfolding each
-fields-two a b = rw (length-append (field a) (field b ++ []), length-append (field b) []) (omega arith)
+spaced-two a b = rw (length-append (spaced a) (spaced b ++ []), length-append (spaced b) []) (omega arith)
 
 line-bytes : (letter : ℕ) (rest : List ℕ) → length (line letter rest) ≡ 2 + length rest
 unfolding line
@@ -52,7 +54,7 @@ line-bytes letter rest = rw (length-append rest (10 ∷ [])) (omega arith)
 
 -- ---- the line of a class whose numbers have so many digits, and whose first fault takes so many bytes
 
-first-fits : (class most : ℕ) (fs : List Fault) → 3 ≤ most → All (λ f. length (each field (shown class f)) ≤ most) fs
+first-fits : (class most : ℕ) (fs : List Fault) → 3 ≤ most → All (λ f. length (each spaced (shown class f)) ≤ most) fs
     → length (firstText class fs) ≤ most
 unfolding firstText
 first-fits class most [] h w = h
@@ -60,7 +62,7 @@ first-fits class most (f ∷ fs) h w = w .0
 
 module _ (n : ℕ) (gs : List Gate) (xs : List ℕ) (class : ℕ) where
   class-fits : (more places most : ℕ) → more + places ≡ 10 → 1 ≤ places → length (classFaults n gs class) < 10 ^ places → 3 ≤ most
-      → All (λ f. length (each field (shown class f)) ≤ most) (classFaults n gs class)
+      → All (λ f. length (each spaced (shown class f)) ≤ most) (classFaults n gs class)
       → length (classText n gs xs class) ≤ 2 + (2 * (1 + places) + most)
   unfolding classText caughtOf left
   class-fits more places most e p h k w =
@@ -68,49 +70,49 @@ module _ (n : ℕ) (gs : List Gate) (xs : List ℕ) (class : ℕ) where
       let caught = length (keep (caughtBySome gs xs) fs) in
       let first = firstText class (keep (λ f. not (caughtBySome gs xs f)) fs) in
       rw (
-        line-bytes (letterOf class) (each field (caught ∷ length fs ∷ []) ++ first),
-        length-append (each field (caught ∷ length fs ∷ [])) first,
-        fields-two caught (length fs),
+        line-bytes (letterOf class) (each spaced (caught ∷ length fs ∷ []) ++ first),
+        length-append (each spaced (caught ∷ length fs ∷ [])) first,
+        spaced-two caught (length fs),
       )
       (omega (
         arith,
-        field-fits more places caught e p (omega (arith, keep-le (caughtBySome gs xs) fs, h)),
-        field-fits more places (length fs) e p h,
+        spaced-fits more places caught e p (omega (arith, keep-le (caughtBySome gs xs) fs, h)),
+        spaced-fits more places (length fs) e p h,
         first-fits class most (keep (λ f. not (caughtBySome gs xs f)) fs) k (all-keep _ (λ f. not (caughtBySome gs xs f)) fs w),
       ))
 
 -- ---- each class
 
-fields-three : (a b d : ℕ) → length (each field (a ∷ b ∷ d ∷ [])) ≡ length (field a) + length (field b) + length (field d)
+spaced-three : (a b d : ℕ) → length (each spaced (a ∷ b ∷ d ∷ [])) ≡ length (spaced a) + length (spaced b) + length (spaced d)
 unfolding each
-fields-three a b d =
-    rw (length-append (field a) (field b ++ (field d ++ [])), length-append (field b) (field d ++ []), length-append (field d) []) (omega arith)
+spaced-three a b d =
+    rw (length-append (spaced a) (spaced b ++ (spaced d ++ [])), length-append (spaced b) (spaced d ++ []), length-append (spaced d) []) (omega arith)
 
-fields-one : (a : ℕ) → length (each field (a ∷ [])) ≡ length (field a)
+spaced-one : (a : ℕ) → length (each spaced (a ∷ [])) ≡ length (spaced a)
 unfolding each
-fields-one a = rw (length-append (field a) []) (omega arith)
+spaced-one a = rw (length-append (spaced a) []) (omega arith)
 
-gate-fits : (i : ℕ) → i ≤ 1024 → length (field i) ≤ 5
-gate-fits i h = field-fits 6 4 i refl (omega arith) (omega arith)
+gate-fits : (i : ℕ) → i ≤ mostGates → length (spaced i) ≤ 5
+gate-fits i h = spaced-fits 6 4 i refl (omega arith) (omega arith)
 
-line-fits : (j : ℕ) → j < 32 → length (field j) ≤ 3
-line-fits j h = field-fits 8 2 j refl (omega arith) (omega arith)
+line-fits : (j : ℕ) → j < mostLines → length (spaced j) ≤ 3
+line-fits j h = spaced-fits 8 2 j refl (omega arith) (omega arith)
 
-module _ (n : ℕ) (gs : List Gate) (xs : List ℕ) (lines : n ≤ 32) (gates : length gs ≤ 1024) (ok : AllOk n gs) where
+module _ (n : ℕ) (gs : List Gate) (xs : List ℕ) (lines : n ≤ mostLines) (gates : length gs ≤ mostGates) (ok : AllOk n gs) where
   stuck-line : length (classText n gs xs 1) ≤ 24
   unfolding shown faultOf
   stuck-line =
-      let many : n * suc (length gs) ≤ 32 * 1025 = mul-le-mul {n₂ = 32} {m₂ = 1025} lines (omega arith) in
+      let many : n * suc (length gs) ≤ mostLines * levels = mul-le-mul {n₂ = mostLines} {m₂ = levels} lines (omega arith) in
       class-fits n gs xs 1 5 5 10 refl (omega arith)
       (rw (list-one n gs 1 refl, length-stuck n gs) (omega arith))
       (omega arith)
       (rw (list-one n gs 1 refl)
-      (all-stuck _ n gs (λ i j v a b d. rw (fields-three i j v)
+      (all-stuck _ n gs (λ i j v a b d. rw (spaced-three i j v)
       (omega (
         arith,
         gate-fits i (omega arith),
         line-fits j (omega (arith, site-line n gs i j (eq-eqb _ 1 b))),
-        field-fits 9 1 v refl (omega arith) (omega arith),
+        spaced-fits 9 1 v refl (omega arith) (omega arith),
       )))))
 
   gate-line : length (classText n gs xs 2) ≤ 17
@@ -119,10 +121,10 @@ module _ (n : ℕ) (gs : List Gate) (xs : List ℕ) (lines : n ≤ 32) (gates : 
       class-fits n gs xs 2 6 4 5 refl (omega arith)
       (rw (list-two n gs 2 refl, length-missing-gates gs) (omega arith))
       (omega arith)
-      (rw (list-two n gs 2 refl) (all-missing-gates _ gs (λ i a b. rw (fields-one i) (gate-fits i (omega arith)))))
+      (rw (list-two n gs 2 refl) (all-missing-gates _ gs (λ i a b. rw (spaced-one i) (gate-fits i (omega arith)))))
 
-  few : length (missingControls n gs) + length (extraControls n gs) ≤ 31744
-  few = rw (length-controls n gs ok) (mul-le-mul {n₂ = 1024} {m₂ = 31} gates (omega arith))
+  few : length (missingControls n gs) + length (extraControls n gs) ≤ mostGates * 31
+  few = rw (length-controls n gs ok) (mul-le-mul {n₂ = mostGates} {m₂ = 31} gates (omega arith))
 
   control-line : length (classText n gs xs 3) ≤ 22
   unfolding shown faultOf
@@ -131,7 +133,7 @@ module _ (n : ℕ) (gs : List Gate) (xs : List ℕ) (lines : n ≤ 32) (gates : 
       (rw (list-three n gs 3 refl) (omega (arith, few)))
       (omega arith)
       (rw (list-three n gs 3 refl)
-      (all-missing-controls _ n gs (λ i j a b d e. rw (fields-two i j) (omega (arith, gate-fits i (omega arith), line-fits j (omega arith))))))
+      (all-missing-controls _ n gs (λ i j a b d e. rw (spaced-two i j) (omega (arith, gate-fits i (omega arith), line-fits j (omega arith))))))
 
   extra-line : length (classText n gs xs 4) ≤ 22
   unfolding shown faultOf
@@ -140,7 +142,7 @@ module _ (n : ℕ) (gs : List Gate) (xs : List ℕ) (lines : n ≤ 32) (gates : 
       (rw (list-four n gs 4 refl) (omega (arith, few)))
       (omega arith)
       (rw (list-four n gs 4 refl)
-      (all-extra-controls _ n gs (λ i j a b d e. rw (fields-two i j) (omega (arith, gate-fits i (omega arith), line-fits j (omega arith))))))
+      (all-extra-controls _ n gs (λ i j a b d e. rw (spaced-two i j) (omega (arith, gate-fits i (omega arith), line-fits j (omega arith))))))
 
   wanted-fits : (classes class : ℕ) → length (wantedText n gs xs classes class) ≤ length (classText n gs xs class)
   unfolding wantedText
@@ -172,31 +174,30 @@ module _ (n : ℕ) (gs : List Gate) (xs : List ℕ) (lines : n ≤ 32) (gates : 
 -- ---- the whole text
 
 pub job-parts : (n classes : ℕ) (words xs : List ℕ)
-    → length (jobText n classes words xs)
-    ≡ length (line 74 (each field (n ∷ length (gatesOf words) ∷ length xs ∷ []))) + length (each (classText n (gatesOf words) xs) (wanted classes))
+    → length (jobText n classes words xs) ≡ length (jobLine n words xs) + length (classLines n classes words xs)
 unfolding jobText
-job-parts n classes words xs = length-append (line 74 (each field (n ∷ length (gatesOf words) ∷ length xs ∷ []))) _
+job-parts n classes words xs = length-append (jobLine n words xs) _
 
-pub job-fits : (n classes : ℕ) (words xs : List ℕ) → Sound n words → length xs ≤ 2048 → length (jobText n classes words xs) ≤ 100
+pub job-fits : (n classes : ℕ) (words xs : List ℕ) → Sound n words → length xs ≤ mostVectors → length (jobText n classes words xs) ≤ longestReport
 job-fits n classes words xs s h =
     rw (
       job-parts n classes words xs,
-      line-bytes 74 (each field (n ∷ length (gatesOf words) ∷ length xs ∷ [])),
-      fields-three n (length (gatesOf words)) (length xs),
+      line-bytes 74 (each spaced (n ∷ length (gatesOf words) ∷ length xs ∷ [])),
+      spaced-three n (length (gatesOf words)) (length xs),
     )
     (omega (
       arith,
-      field-fits 8 2 n refl (omega arith) (omega (arith, s .lines-fit)),
+      spaced-fits 8 2 n refl (omega arith) (omega (arith, s .lines-fit)),
       gate-fits (length (gatesOf words)) (s .gates-fit),
-      field-fits 6 4 (length xs) refl (omega arith) (omega arith),
+      spaced-fits 6 4 (length xs) refl (omega arith) (omega arith),
       classes-fit n (gatesOf words) xs (s .lines-fit) (s .gates-fit) (s .gates-ok) classes,
     ))
 
-field-most : (x : ℕ) → length (field x) ≤ 11
-unfolding field decimal
-field-most x = omega (arith, digits-most 10 x)
+spaced-most : (x : ℕ) → length (spaced x) ≤ 11
+unfolding spaced decimal
+spaced-most x = omega (arith, digits-most 10 x)
 
-pub refused-fits : (number place : ℕ) → length (refusedText number place) ≤ 100
+pub refused-fits : (number place : ℕ) → length (refusedText number place) ≤ longestReport
 unfolding refusedText
 refused-fits number place =
-    rw (line-bytes 69 (each field (number ∷ place ∷ [])), fields-two number place) (omega (arith, field-most number, field-most place))
+    rw (line-bytes 69 (each spaced (number ∷ place ∷ [])), spaced-two number place) (omega (arith, spaced-most number, spaced-most place))

@@ -2,109 +2,90 @@
 use Prim.Native.Nat.{ℕ, _+_, _*_, _/_, _^_, _<_, _≤_}
 use mathlib.Core.Path.{_≡_, refl, ap, sym, _∙_}
 use mathlib.Core.Bool.{false}
-use mathlib.Core.List.{List, [], _∷_, _++_, append-nil}
+use mathlib.Core.List.{List, [], _∷_, _++_, append-assoc, append-nil}
 use native.Mathlib.Omega.{arith}
-use lib.ListN.{length, take, drop, replicate}
+use lib.ListN.{length, take, replicate}
 use lib.Seq.{sets, take-append-seam, length-sets}
-use borrow.Author.Tests.{eq-eqb, lt-ltb, le-ltb}
+use borrow.Author.Tests.{lt-ltb, le-ltb}
 use Rattle.basics.specs.Lists.{All, each}
-use Rattle.refusals.specs.Tables.{Row, Told, firstOf, after}
-use Rattle.refusals.specs.Tables.Row.{refuse_at_when_}
+use Rattle.refusals.specs.Tables.{Row, Told, firstOf}
 use Rattle.refusals.specs.Tables.Told.{answered, refused}
 use Rattle.refusals.specs.Checks.{fine}
 use Rattle.refusals.proofs.Tables.{refused-on, fine-on, fine-parts, after-fine, answered-fine, refused-rows}
-use Rattle.circuit.specs.Gates.{gatesOf}
-use Rattle.circuit.specs.Rules.{circuitSetRows, setRows}
+use Rattle.circuit.specs.Limits.{mostGates, mostVectors}
 use Rattle.circuit.specs.Sound.{Sound}
 use Rattle.circuit.proofs.GateLaws.{gates-count}
-use Rattle.circuit.proofs.RuleLaws.{VectorsOk, vectors-ok, lines-right, sizes-right}
+use Rattle.circuit.proofs.RuleLaws.{VectorsOk}
 use Rattle.job.specs.Image.{linesIn, classesIn, gatesIn, vectorsIn, gateWords, vectorWords}
 use Rattle.job.specs.Promises.{readTells, gatesAfterRead, vectorsAfterRead}
 use Rattle.job.specs.Answers.{toldRead}
 use Rattle.job.specs.declared.Read.{Read}
 use Rattle.job.specs.declared.Read.the-variants.{Job}
-use Rattle.job.specs.Rules.{readRows, headerRows}
+use Rattle.job.specs.Rules.{readRows, headerRows, contentRowsIn, roomRows}
 use Rattle.basics.proofs.PutLaws.{sets-append, sets-front}
-use Rattle.job.proofs.ByteLaws.{length-words}
 use Rattle.job.proofs.ImageLaws.{gates-front, vectors-front}
-use Rattle.job.specs.Parts.{contentRowsIn, badRoom}
-use Rattle.job.proofs.RuleLaws.{read-ok, header-ok}
-use Rattle.report_text.specs.Lines.{field, line}
-use Rattle.report_text.specs.Report.{classText, wanted, jobText, refusedText, textOf, reportText}
+use Rattle.job.proofs.HeaderLaws.{header-ok}
+use Rattle.job.proofs.ReadLaws.{read-ok, read-set}
+use Rattle.report_text.specs.Lines.{spaced, line}
+use Rattle.report_text.specs.Report.{jobLine, classLines, jobText, refusedText, jobRows, textOf, reportText, longestReport}
 use Rattle.report_text.specs.Rules.{reportRows}
+use Rattle.report_text.specs.Promises.{reportTells, roomAfterReport}
 use Rattle.report_text.specs.Parts.{okText, numbersLine}
 use Rattle.report_text.proofs.LengthLaws.{job-fits, refused-fits}
 
 -- ---- the text of a refused job, and of any other
 
-bare : (letter : ℕ) (numbers : List ℕ) → numbersLine letter numbers false ≡ line letter (each field numbers)
+bare : (letter : ℕ) (numbers : List ℕ) → numbersLine letter numbers false ≡ line letter (each spaced numbers)
 unfolding numbersLine okText
-bare letter numbers = ap (line letter) (append-nil (each field numbers))
+bare letter numbers = ap (line letter) (append-nil (each spaced numbers))
 
 pub refused-line : (number place : ℕ) → numbersLine 69 (number ∷ place ∷ []) false ≡ refusedText number place
 unfolding refusedText
 refused-line number place = bare 69 (number ∷ place ∷ [])
 
-pub job-line : (n : ℕ) (words xs : List ℕ)
-    → numbersLine 74 (n ∷ length words / 3 ∷ length xs ∷ []) false ≡ line 74 (each field (n ∷ length (gatesOf words) ∷ length xs ∷ []))
+pub job-line : (n : ℕ) (words xs : List ℕ) → numbersLine 74 (n ∷ length words / 3 ∷ length xs ∷ []) false ≡ jobLine n words xs
 job-line n words xs = rw (gates-count words) (bare 74 (n ∷ length words / 3 ∷ length xs ∷ []))
 
-pub job-put : (text : List ℕ) (n classes : ℕ) (words xs : List ℕ) (end : ℕ)
-    → end ≡ 0 + length (line 74 (each field (n ∷ length (gatesOf words) ∷ length xs ∷ [])))
-    → sets (sets text 0 (line 74 (each field (n ∷ length (gatesOf words) ∷ length xs ∷ [])))) end
-    (each (classText n (gatesOf words) xs) (wanted classes))
-    ≡ sets text 0 (jobText n classes words xs)
+pub job-put : (text lined last : List ℕ) (n classes : ℕ) (words xs : List ℕ) (end : ℕ) → end ≡ 0 + length (jobLine n words xs)
+    → lined ≡ sets text 0 (jobLine n words xs) → last ≡ sets lined end (classLines n classes words xs)
+    → last ≡ sets text 0 (jobText n classes words xs)
 unfolding jobText
-job-put text n classes words xs end e =
-    sets-append text 0 end (line 74 (each field (n ∷ length (gatesOf words) ∷ length xs ∷ [])))
-    (each (classText n (gatesOf words) xs) (wanted classes)) (sym e)
+job-put text lined last n classes words xs end e p q =
+    rw (q, p) (sets-append text 0 end (jobLine n words xs) (classLines n classes words xs) (sym e))
 
 -- ---- what a reading tells
 
-pub report-refused : (bytes : List ℕ) (k p gateRoom vectorRoom : ℕ) (answer : List ℕ) → gateRoom ≡ 3072 → vectorRoom ≡ 2048
+pub report-refused : (bytes : List ℕ) (k p gateRoom vectorRoom : ℕ) (answer : List ℕ) → gateRoom ≡ 3 * mostGates → vectorRoom ≡ mostVectors
     → refused k p ≡ firstOf (readRows bytes gateRoom vectorRoom) (answered answer) → refusedText k p ≡ reportText bytes
 unfolding reportText
 report-refused bytes k p gateRoom vectorRoom answer g v e = rw (← g, ← v, ← refused-rows (readRows bytes gateRoom vectorRoom) k p answer e)
 
-report-job : (bytes : List ℕ) → fine ≡ firstOf (readRows bytes 3072 2048) fine
+report-job : (bytes : List ℕ) → fine ≡ firstOf (jobRows bytes) fine
     → jobText (linesIn bytes) (classesIn bytes) (gateWords bytes) (vectorWords bytes) ≡ reportText bytes
 unfolding reportText
 report-job bytes e = rw (← e)
 
--- ---- a job that is read breaks no rule of the judge
+-- ---- a job that is read
 
-read-set : (bytes : List ℕ) (words vectors : ℕ) → fine ≡ firstOf (readRows bytes words vectors) fine
-    → VectorsOk (linesIn bytes) (gateWords bytes) (vectorWords bytes)
-unfolding setRows circuitSetRows gateWords vectorWords
-read-set bytes words vectors e =
-    let ok = read-ok bytes words vectors e in
-    let gates = length-words (3 * gatesIn bytes) bytes 28 in
-    let many = length-words (vectorsIn bytes) bytes (28 + 12 * gatesIn bytes) in
-    vectors-ok (linesIn bytes) (gateWords bytes) (vectorWords bytes)
-    (rw (
-      lines-right (linesIn bytes) (λ z. omega (arith, ok .head .some-lines)) (ok .head .lines-fit),
-      sizes-right (gateWords bytes) (length (vectorWords bytes)) (omega (arith, gates, ok .head .gates-fit))
-          (omega (arith, many, ok .head .vectors-fit)),
-      eq-eqb _ 0 (ok .gates-good),
-      eq-eqb _ 0 (ok .vectors-good),
-    ))
+-- it breaks no rule of the judge
+job-set : (bytes : List ℕ) → fine ≡ firstOf (jobRows bytes) fine → VectorsOk (linesIn bytes) (gateWords bytes) (vectorWords bytes)
+job-set bytes e = read-set bytes (3 * mostGates) mostVectors (read-ok bytes (3 * mostGates) mostVectors e)
 
 -- what a reading that answers leaves in the lists
 pub record JobRead (bytes gates vectors : List ℕ) (n k d m : ℕ) : Type 0 where
-  pub passed : fine ≡ firstOf (readRows bytes 3072 2048) fine
+  pub passed : fine ≡ firstOf (jobRows bytes) fine
   pub lines-are : n ≡ linesIn bytes
   pub classes-are : k ≡ classesIn bytes
   pub gates-are : take (3 * d) gates ≡ gateWords bytes
   pub vectors-are : take m vectors ≡ vectorWords bytes
-  pub gates-in : 3 * d ≤ 3072
-  pub vectors-in : m ≤ 2048
+  pub gates-in : 3 * d ≤ 3 * mostGates
+  pub vectors-in : m ≤ mostVectors
 
 -- what the call's promise says of a job that it answers
 pub job-read : (r : Read) (bytes oldGates oldVectors gates vectors : List ℕ) (n k d m : ℕ) → r ≡ Job n k d m
     → (toldRead r ≡ readTells bytes oldGates oldVectors)
     × ((gates ≡ gatesAfterRead bytes oldGates oldVectors) × (vectors ≡ vectorsAfterRead bytes oldGates oldVectors))
-    → length oldGates ≡ 3072 → length oldVectors ≡ 2048 → JobRead bytes gates vectors n k d m
-unfolding gatesIn vectorsIn
+    → length oldGates ≡ 3 * mostGates → length oldVectors ≡ mostVectors → JobRead bytes gates vectors n k d m
 job-read r bytes oldGates oldVectors gates vectors n k d m is promise p q =
     let rows = readRows bytes (length oldGates) (length oldVectors) in
     let told : answered (n ∷ k ∷ d ∷ m ∷ []) ≡ readTells bytes oldGates oldVectors = sym (ap toldRead is) ∙ promise .0 in
@@ -124,8 +105,8 @@ job-read r bytes oldGates oldVectors gates vectors n k d m is promise p q =
 
 module _ (bytes gates vectors : List ℕ) (n k d m : ℕ) (w : JobRead bytes gates vectors n k d m) where
   -- it breaks no rule of the judge
-  pub job-sound : Sound n (take (3 * d) gates) × (All (λ x. x < 2 ^ n) (take m vectors) × (length (take m vectors) ≤ 2048))
-  job-sound = let ok = read-set bytes 3072 2048 (w .passed) in
+  pub job-sound : Sound n (take (3 * d) gates) × (All (λ x. x < 2 ^ n) (take m vectors) × (length (take m vectors) ≤ mostVectors))
+  job-sound = let ok = job-set bytes (w .passed) in
       rw (w .lines-are, w .gates-are, w .vectors-are) (ok .set .circuit, (ok .vectors, ok .set .vectors-fit))
 
   pub job-text : jobText n k (take (3 * d) gates) (take m vectors) ≡ reportText bytes
@@ -138,40 +119,34 @@ text-as text last end same h = rw (← same) h
 
 -- ---- the call
 
-text-of-fits : (bytes : List ℕ) (told : Told) → told ≡ firstOf (readRows bytes 3072 2048) fine
-    → length (textOf told (jobText (linesIn bytes) (classesIn bytes) (gateWords bytes) (vectorWords bytes))) ≤ 100
+text-of-fits : (bytes : List ℕ) (told : Told) → told ≡ firstOf (jobRows bytes) fine
+    → length (textOf told (jobText (linesIn bytes) (classesIn bytes) (gateWords bytes) (vectorWords bytes))) ≤ longestReport
 text-of-fits bytes (refused number place) e = refused-fits number place
 text-of-fits bytes (answered values) e =
-    let ok = read-set bytes 3072 2048 (answered-fine (readRows bytes 3072 2048) values [] e .1) in
+    let ok = job-set bytes (answered-fine (jobRows bytes) values [] e .1) in
     job-fits (linesIn bytes) (classesIn bytes) (gateWords bytes) (vectorWords bytes) (ok .set .circuit) (ok .set .vectors-fit)
 
 -- the longest report
-pub report-fits : (bytes : List ℕ) → length (reportText bytes) ≤ 100
+pub report-fits : (bytes : List ℕ) → length (reportText bytes) ≤ longestReport
 unfolding reportText
-report-fits bytes = text-of-fits bytes (firstOf (readRows bytes 3072 2048) fine) refl
+report-fits bytes = text-of-fits bytes (firstOf (jobRows bytes) fine) refl
 
--- the text in its array of 100 bytes
-pub text-end : (bytes last : List ℕ) (end : ℕ) → end ≡ length (reportText bytes) → last ≡ sets (replicate 100 0) 0 (reportText bytes)
+-- the text in an array that is long enough
+pub text-end : (bytes last : List ℕ) (end : ℕ) → end ≡ length (reportText bytes) → last ≡ sets (replicate longestReport 0) 0 (reportText bytes)
     → (end ≤ length last) × (take end last ≡ reportText bytes)
 text-end bytes last end e f =
     let fits = report-fits bytes in (
-      rw (f, length-sets (replicate 100 0) 0 (reportText bytes)) (omega (arith, fits, e)),
-      rw (f, e, sets-front (replicate 100 0) (reportText bytes) (omega (arith, fits))) (take-append-seam (reportText bytes) _),
+      rw (f, length-sets (replicate longestReport 0) 0 (reportText bytes)) (omega (arith, fits, e)),
+      rw (f, e, sets-front (replicate longestReport 0) (reportText bytes) (omega (arith, fits))) (take-append-seam (reportText bytes) _),
     )
 
 module _ (bytes out : List ℕ) (end : ℕ) (is : end ≡ length (reportText bytes)) where
-  abbrev rows : List Row
-  rows = reportRows bytes (length out)
-
-  abbrev made : List ℕ
-  made = reportText bytes ++ drop (length (reportText bytes)) out
-
-  pub report-short : length out < end → (refused 10 0 ≡ firstOf rows (answered (length (reportText bytes) ∷ []))) × (out ≡ after rows made out)
+  pub report-short : length out < end → (refused 10 0 ≡ reportTells bytes out) × (out ≡ roomAfterReport bytes out)
   unfolding reportRows
   report-short h = rw (lt-ltb (length out) (length (reportText bytes)) (omega arith)) (refl, refl)
 
   pub report-put : end ≤ length out → (last : List ℕ) → last ≡ sets out 0 (reportText bytes)
-      → (answered (end ∷ []) ≡ firstOf rows (answered (length (reportText bytes) ∷ []))) × (last ≡ after rows made out)
+      → (answered (end ∷ []) ≡ reportTells bytes out) × (last ≡ roomAfterReport bytes out)
   unfolding reportRows
   report-put h last e =
       rw (le-ltb (length out) (length (reportText bytes)) (omega arith))
@@ -179,35 +154,34 @@ module _ (bytes out : List ℕ) (end : ℕ) (is : end ≡ length (reportText byt
 
 -- ---- what callers may lean on
 
--- a report that is told has at most 100 bytes
+-- a report that is told is no longer than the longest
 pub told-fits : (bytes : List ℕ) (room end : ℕ) → answered (end ∷ []) ≡ firstOf (reportRows bytes room) (answered (length (reportText bytes) ∷ []))
-    → end ≤ 100
+    → end ≤ longestReport
 told-fits bytes room end e =
     let w = answered-fine (reportRows bytes room) (end ∷ []) (length (reportText bytes) ∷ []) e .0 in
     let same : end ≡ length (reportText bytes) = cc in
     omega (arith, same, report-fits bytes)
 
 -- a job is refused by rules 1 to 8 alone: there is room for the longest
-abbrev roomRows : List ℕ → List Row
-roomRows bytes = refuse 10 at 0 when badRoom bytes 3072 2048 ∷ []
+abbrev room : List ℕ → List Row
+room bytes = roomRows bytes (3 * mostGates) mostVectors
 
-in-parts : (bytes : List ℕ) → readRows bytes 3072 2048 ≡ (headerRows bytes ++ contentRowsIn bytes) ++ roomRows bytes
-unfolding readRows headerRows contentRowsIn badRoom
-in-parts bytes = refl
+in-parts : (bytes : List ℕ) → jobRows bytes ≡ (headerRows bytes ++ contentRowsIn bytes) ++ room bytes
+unfolding readRows
+in-parts bytes = sym (append-assoc (headerRows bytes) (contentRowsIn bytes) (room bytes))
 
-room-fine : (bytes : List ℕ) → fine ≡ firstOf (headerRows bytes) fine → firstOf (roomRows bytes) fine ≡ fine
-unfolding badRoom
+room-fine : (bytes : List ℕ) → fine ≡ firstOf (headerRows bytes) fine → firstOf (room bytes) fine ≡ fine
 room-fine bytes e =
     let h = header-ok bytes e in
-    rw (le-ltb 3072 (3 * gatesIn bytes) (omega (arith, h .gates-fit)), le-ltb 2048 (vectorsIn bytes) (h .vectors-fit))
+    rw (le-ltb (3 * mostGates) (3 * gatesIn bytes) (omega (arith, h .gates-fit)), le-ltb mostVectors (vectorsIn bytes) (h .vectors-fit))
 
 by-told : (bytes : List ℕ) (told : Told) → told ≡ firstOf (headerRows bytes ++ contentRowsIn bytes) fine
-    → told ≡ firstOf ((headerRows bytes ++ contentRowsIn bytes) ++ roomRows bytes) fine
-by-told bytes (refused k p) e = refused-on (headerRows bytes ++ contentRowsIn bytes) (roomRows bytes) fine k p e
+    → told ≡ firstOf ((headerRows bytes ++ contentRowsIn bytes) ++ room bytes) fine
+by-told bytes (refused k p) e = refused-on (headerRows bytes ++ contentRowsIn bytes) (room bytes) fine k p e
 by-told bytes (answered values) e =
     let passed = answered-fine (headerRows bytes ++ contentRowsIn bytes) values [] e .1 in
     let header = fine-parts (headerRows bytes) (contentRowsIn bytes) passed .0 in
-    e ∙ sym passed ∙ sym (fine-on (headerRows bytes ++ contentRowsIn bytes) (roomRows bytes) fine passed ∙ room-fine bytes header)
+    e ∙ sym passed ∙ sym (fine-on (headerRows bytes ++ contentRowsIn bytes) (room bytes) fine passed ∙ room-fine bytes header)
 
-pub rules-1-to-8 : (bytes : List ℕ) → firstOf (readRows bytes 3072 2048) fine ≡ firstOf (headerRows bytes ++ contentRowsIn bytes) fine
+pub rules-1-to-8 : (bytes : List ℕ) → firstOf (jobRows bytes) fine ≡ firstOf (headerRows bytes ++ contentRowsIn bytes) fine
 rules-1-to-8 bytes = rw (in-parts bytes) (sym (by-told bytes (firstOf (headerRows bytes ++ contentRowsIn bytes) fine) refl))

@@ -3,3 +3,4 @@ pub mod Report
 pub mod Rules
 pub mod Parts
 pub mod Answers
+pub mod Promises

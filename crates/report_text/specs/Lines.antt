@@ -1,11 +1,11 @@
--- Lines of text: a letter, and fields.
+-- Lines of text: a letter, and numbers.
 use Prim.Native.Nat.{ℕ}
 use mathlib.Core.List.{List, [], _∷_, _++_}
 use Rattle.text.specs.Decimal.{decimal}
 
--- a field: one blank, then the number
-unfoldable pub field : ℕ → List ℕ
-field x = 32 ∷ decimal x
+-- one blank, then the number
+unfoldable pub spaced : ℕ → List ℕ
+spaced x = 32 ∷ decimal x
 
 -- a line: a letter, what follows it, and LF
 unfoldable pub line : ℕ → List ℕ → List ℕ

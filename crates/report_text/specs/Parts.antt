@@ -8,18 +8,19 @@ use Rattle.basics.specs.Lists.{each}
 use Rattle.circuit.specs.declared.Gate.{Gate}
 use Rattle.judge.specs.declared.Verdict.{Verdict}
 use Rattle.judge.specs.declared.Verdict.the-variants.{Complete, Left, Refused}
-use Rattle.report_text.specs.Lines.{field, line}
-use Rattle.report_text.specs.Report.{letterOf, shown, classText, isWanted}
+use Rattle.job.specs.Wanted.{isWanted}
+use Rattle.report_text.specs.Lines.{spaced, line}
+use Rattle.report_text.specs.Report.{letterOf, shown, classText}
 
 unfoldable pub okText : Bool → List ℕ
 okText ok = choice ok (32 ∷ 111 ∷ 107 ∷ []) []
 
 unfoldable pub numbersLine : ℕ → List ℕ → Bool → List ℕ
-numbersLine letter numbers ok = line letter (each field numbers ++ okText ok)
+numbersLine letter numbers ok = line letter (each spaced numbers ++ okText ok)
 
--- the number caught, the number in the class, and what is shown of a fault
-unfoldable pub numbersOf : ℕ → ℕ
-numbersOf class = choice (eqb class 1) 5 (choice (eqb class 2) 3 4)
+-- how many numbers: that caught, that in the class, and what is shown of a fault
+unfoldable pub numbersShown : ℕ → ℕ
+numbersShown class = choice (eqb class 1) 5 (choice (eqb class 2) 3 (choice (eqb class 3) 4 (choice (eqb class 4) 4 2)))
 
 abbrev pub verdictText : ℕ → Verdict → List ℕ
 verdictText class (Complete caught total) = numbersLine (letterOf class) (caught ∷ total ∷ []) true

@@ -3,18 +3,18 @@ ghost use mathlib.Core.Path.{_≡_};
 ghost use Prim.Native.Nat.{_+_, _^_, _<_, _≤_};
 ghost use lib.ListN.{length};
 ghost use lib.Seq.{sets};
-ghost use Rattle.basics.specs.Lists.{All, each};
+ghost use Rattle.basics.specs.Lists.{All};
 ghost use Rattle.circuit.specs.Gates.{gatesOf};
 ghost use Rattle.circuit.specs.Sound.{Sound};
-ghost use Rattle.report_text.specs.Report.{letterOf, classText, wanted};
-ghost use Rattle.report_text.specs.Parts.{numbersOf, verdictText, wantedText};
+ghost use Rattle.report_text.specs.Report.{letterOf, classLines};
+ghost use Rattle.report_text.specs.Parts.{numbersShown, verdictText, wantedText};
 use crate::lines::put_line;
 use faults::Fault;
+use job::wanted::is_wanted;
 use judge::Verdict;
 use judge::checked::judge_class;
-use words::checked::value;
 
-// The letter of a class.
+// The letter of a class, and a question mark for a number that is no class.
 fn letter_of(class: u32) -> u8
     ensures { λ r. ⌜ r ≡ letterOf class ⌝ }
 {
@@ -22,18 +22,21 @@ fn letter_of(class: u32) -> u8
         1 => b'S',
         2 => b'M',
         3 => b'C',
-        _ => b'X',
+        4 => b'X',
+        _ => b'?',
     }
 }
 
 // How many numbers the line of a class with an uncaught fault has.
-fn numbers_of(class: u32) -> usize
-    ensures { λ r. ⌜ r ≡ numbersOf class ⌝ }
+fn numbers_shown(class: u32) -> usize
+    ensures { λ r. ⌜ r ≡ numbersShown class ⌝ }
 {
     match class {
         1 => 5,
         2 => 3,
-        _ => 4,
+        3 => 4,
+        4 => 4,
+        _ => 2,
     }
 }
 
@@ -54,7 +57,7 @@ fn put_left(out: &mut [u8], at: usize, class: u32, caught: u32, total: u32, firs
         × (now (out .exit) ≡ sets (now (out .entry)) at (verdictText class (Verdict.Left caught total first))) ⌝ }
 {
     let numbers = [caught, total, first.place, first.line, first.value];
-    let count = numbers_of(class);
+    let count = numbers_shown(class);
     put_line(out, at, letter_of(class), &numbers[..count], false)
 }
 
@@ -90,7 +93,7 @@ fn put_wanted(
     ensures { λ r. ⌜ (r ≡ at + length (wantedText lines (gatesOf (now (gates .entry))) (now (vectors .entry)) classes class))
         × (now (out .exit) ≡ sets (now (out .entry)) at (wantedText lines (gatesOf (now (gates .entry))) (now (vectors .entry)) classes class)) ⌝ }
 {
-    if value(classes, class - 1) == 0 {
+    if !is_wanted(classes, class) {
         return at;
     }
     put_verdict(out, at, class, judge_class(lines, gates, vectors, class))
@@ -107,10 +110,9 @@ pub fn put_classes(
 ) -> usize
     requires { ⌜ Sound lines (now gates) ⌝ }
     requires { ⌜ All (λ x. x < 2 ^ lines) (now vectors) ⌝ }
-    requires { ⌜ at + length (each (classText lines (gatesOf (now gates)) (now vectors)) (wanted classes)) ≤ length (now out) ⌝ }
-    ensures { λ r. ⌜ (r ≡ at + length (each (classText lines (gatesOf (now (gates .entry))) (now (vectors .entry))) (wanted classes)))
-        × (now (out .exit) ≡ sets (now (out .entry)) at
-        (each (classText lines (gatesOf (now (gates .entry))) (now (vectors .entry))) (wanted classes))) ⌝ }
+    requires { ⌜ at + length (classLines lines classes (now gates) (now vectors)) ≤ length (now out) ⌝ }
+    ensures { λ r. ⌜ (r ≡ at + length (classLines lines classes (now (gates .entry)) (now (vectors .entry))))
+        × (now (out .exit) ≡ sets (now (out .entry)) at (classLines lines classes (now (gates .entry)) (now (vectors .entry)))) ⌝ }
 {
     let mut end = at;
     let mut class = 1;

@@ -1,23 +1,25 @@
 // The report: from any bytes to the text of their verdict.
 ghost use mathlib.Core.Path.{_≡_};
-ghost use mathlib.Core.List.{[], _∷_, _++_};
 ghost use Prim.Native.Nat.{_^_, _<_, _≤_};
-ghost use lib.ListN.{length, drop};
+ghost use lib.ListN.{length};
 ghost use lib.Seq.{sets};
-ghost use Rattle.refusals.specs.Tables.{firstOf, after};
-ghost use Rattle.refusals.specs.Tables.Told.{answered};
 ghost use Rattle.basics.specs.Lists.{All};
+ghost use Rattle.circuit.specs.Limits.{mostVectors};
 ghost use Rattle.circuit.specs.Sound.{Sound};
 ghost use Rattle.report_text.specs.Report.{reportText, refusedText, jobText};
-ghost use Rattle.report_text.specs.Rules.{reportRows};
+ghost use Rattle.report_text.specs.Promises.{reportTells, roomAfterReport};
 ghost use Rattle.report_text.specs.Answers.{toldReported};
 use crate::classes::put_classes;
+use crate::limits::LONGEST_REPORT;
 use crate::lines::put_line;
+use circuit::limits::GATE_WORDS;
+use circuit::limits::MOST_VECTORS;
 use job::Read;
 use refusals::Refusal;
 use text::put_bytes;
 
 mod classes;
+pub mod limits;
 mod lines;
 
 // The number of bytes of the text.
@@ -28,15 +30,10 @@ pub enum Reported {
 
 // The text of a job's report into the front of some bytes. A refused call changes nothing; a refused job is a text.
 pub fn report(bytes: &[u8], out: &mut [u8]) -> Reported
-    ensures { λ r. ⌜ (toldReported r ≡ firstOf
-        (reportRows (now (bytes .entry)) (length (now (out .entry))))
-        (answered (length (reportText (now (bytes .entry))) ∷ [])))
-        × (now (out .exit) ≡ after
-        (reportRows (now (bytes .entry)) (length (now (out .entry))))
-        (reportText (now (bytes .entry)) ++ drop (length (reportText (now (bytes .entry)))) (now (out .entry)))
-        (now (out .entry))) ⌝ }
+    ensures { λ r. ⌜ (toldReported r ≡ reportTells (now (bytes .entry)) (now (out .entry)))
+        × (now (out .exit) ≡ roomAfterReport (now (bytes .entry)) (now (out .entry))) ⌝ }
 {
-    let mut text = [0u8; 100];
+    let mut text = [0u8; LONGEST_REPORT];
     let end = put_report(bytes, &mut text);
     if out.len() < end {
         return Reported::Refused(Refusal {
@@ -48,13 +45,13 @@ pub fn report(bytes: &[u8], out: &mut [u8]) -> Reported
     Reported::Bytes(end as u32)
 }
 
-// The report's text, and where it ends. It has at most 100 bytes.
-fn put_report(bytes: &[u8], text: &mut [u8; 100]) -> usize
+// The report's text, and where it ends.
+fn put_report(bytes: &[u8], text: &mut [u8; LONGEST_REPORT]) -> usize
     ensures { λ r. ⌜ (r ≡ length (reportText (now (bytes .entry))))
         × (now (text .exit) ≡ sets (now (text .entry)) 0 (reportText (now (bytes .entry)))) ⌝ }
 {
-    let mut gates = [0u32; 3072];
-    let mut vectors = [0u32; 2048];
+    let mut gates = [0u32; GATE_WORDS];
+    let mut vectors = [0u32; MOST_VECTORS];
     match job::read_job(bytes, &mut gates, &mut vectors) {
         Read::Refused(refusal) => put_refused(text, refusal),
         Read::Job {
@@ -71,7 +68,7 @@ fn put_report(bytes: &[u8], text: &mut [u8; 100]) -> usize
 }
 
 // The text of a refused job.
-fn put_refused(text: &mut [u8; 100], refusal: Refusal) -> usize
+fn put_refused(text: &mut [u8; LONGEST_REPORT], refusal: Refusal) -> usize
     ensures { λ r. ⌜ (r ≡ length (refusedText (refusal .number) (refusal .place)))
         × (now (text .exit) ≡ sets (now (text .entry)) 0 (refusedText (refusal .number) (refusal .place))) ⌝ }
 {
@@ -80,9 +77,15 @@ fn put_refused(text: &mut [u8; 100], refusal: Refusal) -> usize
 }
 
 // The text of a job that breaks no rule.
-fn put_job(text: &mut [u8; 100], lines: u32, classes: u32, gates: &[u32], vectors: &[u32]) -> usize
+fn put_job(
+    text: &mut [u8; LONGEST_REPORT],
+    lines: u32,
+    classes: u32,
+    gates: &[u32],
+    vectors: &[u32],
+) -> usize
     requires { ⌜ Sound lines (now gates) ⌝ }
-    requires { ⌜ All (λ x. x < 2 ^ lines) (now vectors) × (length (now vectors) ≤ 2048) ⌝ }
+    requires { ⌜ All (λ x. x < 2 ^ lines) (now vectors) × (length (now vectors) ≤ mostVectors) ⌝ }
     ensures { λ r. ⌜ (r ≡ length (jobText lines classes (now (gates .entry)) (now (vectors .entry))))
         × (now (text .exit) ≡ sets (now (text .entry)) 0 (jobText lines classes (now (gates .entry)) (now (vectors .entry)))) ⌝ }
 {

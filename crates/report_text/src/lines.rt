@@ -5,16 +5,16 @@ ghost use lib.ListN.{length};
 ghost use lib.Seq.{sets};
 ghost use mathlib.Core.List.{[], _∷_, _++_};
 ghost use Rattle.basics.specs.Lists.{each};
-ghost use Rattle.report_text.specs.Lines.{field};
+ghost use Rattle.report_text.specs.Lines.{spaced};
 ghost use Rattle.report_text.specs.Parts.{okText, numbersLine};
 use text::put_bytes;
 use text::put_decimal;
 
 // A blank before each number.
-fn put_fields(out: &mut [u8], at: usize, numbers: &[u32]) -> usize
-    requires { ⌜ at + length (each field (now numbers)) ≤ length (now out) ⌝ }
-    ensures { λ r. ⌜ (r ≡ at + length (each field (now (numbers .entry))))
-        × (now (out .exit) ≡ sets (now (out .entry)) at (each field (now (numbers .entry)))) ⌝ }
+fn put_spaced(out: &mut [u8], at: usize, numbers: &[u32]) -> usize
+    requires { ⌜ at + length (each spaced (now numbers)) ≤ length (now out) ⌝ }
+    ensures { λ r. ⌜ (r ≡ at + length (each spaced (now (numbers .entry))))
+        × (now (out .exit) ≡ sets (now (out .entry)) at (each spaced (now (numbers .entry)))) ⌝ }
 {
     let mut end = at;
     let mut i = 0;
@@ -44,6 +44,6 @@ pub fn put_line(out: &mut [u8], at: usize, letter: u8, numbers: &[u32], ok: bool
         × (now (out .exit) ≡ sets (now (out .entry)) at (numbersLine letter (now (numbers .entry)) ok)) ⌝ }
 {
     out[at] = letter;
-    let end = put_fields(out, at + 1, numbers);
+    let end = put_spaced(out, at + 1, numbers);
     put_end(out, end, ok)
 }

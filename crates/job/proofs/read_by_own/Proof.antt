@@ -1,13 +1,28 @@
 -- `job::read_by_own` meets its contract: the check is the whole table, and no lent list is written before it has passed. Assumes nothing.
-use mathlib.Core.Path.{ap, sym, _∙_}
+use mathlib.Core.Path.{_≡_, ap, sym, _∙_}
+use mathlib.Core.List.{List}
 use lib.ListN.{length}
-use Rattle.refusals.specs.Checks.{found}
+use Rattle.refusals.specs.Tables.{Row, firstOf}
+use Rattle.refusals.specs.Checks.{fine, found}
 use Rattle.refusals.proofs.Tables.{refused-all, fine-all, after-refused, after-fine}
 use Rattle.job.specs.Rules.{readRows}
 use Rattle.job.specs.Answers.{toldRead}
 use borrow.Author.Needs.{needs}
 use Rattle.job.proofs.read_by_own.Statement.{statement}
 use Rattle.job.proofs.read_by_own.Tie as tie
+
+-- the entry and its table, the place where the rules have been checked, and that where none is broken
+abbrev entry : tie.After-check-read → tie.Start
+entry c = c .before .before .before .before .before .before .before .before
+
+abbrev rows : tie.Start → List Row
+rows c = readRows (c .args .bytes .now) (length (c .args .gates .now)) (length (c .args .vectors .now))
+
+abbrev checked : tie.After-slice-known6 → tie.After-check-read
+checked c = c .before .before .before .before
+
+passed : (c : tie.After-enum-told) → fine ≡ firstOf (rows (entry (checked (c .before .before)))) fine
+passed c = ap found (sym (c .enum-told .given .1)) ∙ checked (c .before .before) .check-read .ensures
 
 check-read-requires : tie.Need-check-read-requires
 check-read-requires c κs = search needs
@@ -19,9 +34,7 @@ enum-told : tie.Need-enum-told
 enum-told c = search needs
 
 read-image-requires : tie.Need-read-image-requires
-read-image-requires c κs =
-    let c8 = c .before .before .before .before .before .before .before .before in
-    ap found (sym (c .before .before .enum-told .given .1)) ∙ c8 .check-read .ensures
+read-image-requires c κs = passed (c .before .before)
 
 same-length : tie.Need-same-length
 same-length c = search needs
@@ -31,11 +44,10 @@ same-length-2 c = search needs
 
 returns : tie.Need-returns
 returns c =
-    let c7 = c .before .before .before .before .before .before .before in
-    let a = c7 .before .before .before .before .before .before .before .before .args in
-    let rows = readRows (a .bytes .now) (length (a .gates .now)) (length (a .vectors .now)) in
-    let told = ap found (sym (c .before .refusal .given .1)) ∙ c7 .check-read .ensures in
-    (refused-all rows _ _ _ told, (after-refused rows _ _ _ _ told, after-refused rows _ _ _ _ told))
+    let check = checked (c .before .before .before) in
+    let table = rows (entry check) in
+    let told = ap found (sym (c .before .refusal .given .1)) ∙ check .check-read .ensures in
+    (refused-all table _ _ _ told, (after-refused table _ _ _ _ told, after-refused table _ _ _ _ told))
 
 same-length-3 : tie.Need-same-length-3
 same-length-3 c = search needs
@@ -51,14 +63,12 @@ same-length-6 c = search needs
 
 returns-2 : tie.Need-returns-2
 returns-2 c =
-    let c4 = c .before .before .before .before in
-    let c7 = c4 .before .before .before in
-    let c13 = c7 .before .before .before .before .before .before in
-    let a = c13 .before .before .before .before .before .before .before .before .args in
-    let rows = readRows (a .bytes .now) (length (a .gates .now)) (length (a .vectors .now)) in
-    let passed = ap found (sym (c7 .enum-told .given .1)) ∙ c13 .check-read .ensures in
-    let made = c4 .read-image .ensures in
-    (ap toldRead (made .0) ∙ fine-all rows _ passed, (made .1 .0 ∙ after-fine rows _ _ passed, made .1 .1 ∙ after-fine rows _ _ passed))
+    let read = c .before .before .before .before in
+    let told = read .before .before .before in
+    let table = rows (entry (checked (told .before .before))) in
+    let fine-here = passed told in
+    let made = read .read-image .ensures in
+    (ap toldRead (made .0) ∙ fine-all table _ fine-here, (made .1 .0 ∙ after-fine table _ _ fine-here, made .1 .1 ∙ after-fine table _ _ fine-here))
 
 pub read-by-own-spec : {M : Type 1} → statement M
 read-by-own-spec =

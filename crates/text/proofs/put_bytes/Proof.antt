@@ -1,4 +1,4 @@
--- `report_text::text::put_bytes` meets its contract: each turn stores one byte, and those left make the rest. Assumes nothing.
+-- `text::put_bytes` meets its contract: each turn stores one byte, and those left make the rest. Assumes nothing.
 use Prim.Native.Nat.{_+_, _-_, _≤_}
 use mathlib.Core.Path.{_≡_, refl, sym, _∙_}
 use native.Mathlib.Omega.{arith}

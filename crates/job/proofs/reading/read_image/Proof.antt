@@ -1,41 +1,34 @@
 -- `job::reading::read_image` meets its contract: the counts and the lists are those of the image. Assumes nothing.
-use native.Mathlib.Omega.{arith}
 use lib.ListN.{length}
-use Rattle.job.specs.Image.{linesIn, classesIn, gatesIn, vectorsIn}
-use Rattle.job.proofs.RuleLaws.{read-ok}
+use Rattle.job.proofs.ReadLaws.{ReadOk, read-ok}
 use borrow.Author.Needs.{needs}
 use Rattle.job.proofs.reading.read_image.Statement.{statement}
 use Rattle.job.proofs.reading.read_image.Tie as tie
 
+-- the entry, and the place where the lists have been read
+abbrev entry : tie.After-read-lists → tie.Start
+entry c = c .before .before .before .before .before .before
+
+abbrev listed : tie.After-slice-known4 → tie.After-read-lists
+listed c = c .before .before .before .before
+
+ok : (c : tie.Start) → ReadOk (c .args .image .now) (length (c .args .gates .now)) (length (c .args .vectors .now))
+ok c = read-ok (c .args .image .now) (length (c .args .gates .now)) (length (c .args .vectors .now)) (c .pre)
+
 read-lists-requires : tie.Need-read-lists-requires
-read-lists-requires c κs =
-    let a = c .before .before .before .before .before in
-    let ok = read-ok (a .args .image .now) (length (a .args .gates .now)) (length (a .args .vectors .now)) (a .pre) in
-    (ok .head .whole, (ok .gates-room, ok .vectors-room))
+read-lists-requires c κs = let w = ok (c .before .before .before .before .before) in (w .head .whole, (w .gates-room, w .vectors-room))
 
-number-at-2-requires : tie.Need-number-at-2-requires
-number-at-2-requires c κs =
-    let a = c .before .before .before .before .before .before .before .before .before .before in
-    let ok = read-ok (a .args .image .now) (length (a .args .gates .now)) (length (a .args .vectors .now)) (a .pre) in
-    omega arith
+lines-in-requires : tie.Need-lines-in-requires
+lines-in-requires c κs = ok (entry (listed c)) .head .long
 
-number-at-2-requires-2 : tie.Need-number-at-2-requires-2
-number-at-2-requires-2 c κs =
-    let a = c .before .before .before .before .before .before .before .before .before .before .before in
-    let ok = read-ok (a .args .image .now) (length (a .args .gates .now)) (length (a .args .vectors .now)) (a .pre) in
-    omega arith
+classes-in-requires : tie.Need-classes-in-requires
+classes-in-requires c κs = ok (entry (listed (c .before))) .head .long
 
-number-at-4-requires : tie.Need-number-at-4-requires
-number-at-4-requires c κs =
-    let a = c .before .before .before .before .before .before .before .before .before .before .before .before in
-    let ok = read-ok (a .args .image .now) (length (a .args .gates .now)) (length (a .args .vectors .now)) (a .pre) in
-    omega arith
+gates-in-requires : tie.Need-gates-in-requires
+gates-in-requires c κs = ok (entry (listed (c .before .before))) .head .long
 
-number-at-4-requires-2 : tie.Need-number-at-4-requires-2
-number-at-4-requires-2 c κs =
-    let a = c .before .before .before .before .before .before .before .before .before .before .before .before .before in
-    let ok = read-ok (a .args .image .now) (length (a .args .gates .now)) (length (a .args .vectors .now)) (a .pre) in
-    omega arith
+vectors-in-requires : tie.Need-vectors-in-requires
+vectors-in-requires c κs = ok (entry (listed (c .before .before .before))) .head .long
 
 same-length : tie.Need-same-length
 same-length c = search needs
@@ -44,22 +37,22 @@ same-length-2 : tie.Need-same-length-2
 same-length-2 c = search needs
 
 returns : tie.Need-returns
-unfolding linesIn classesIn gatesIn vectorsIn
 returns c =
-    let c2 = c .before .before in
-    let c3 = c2 .before in
-    let c8 = c3 .before .before .before .before .before in
-    (rw (c3 .number-at-2 .ensures, c2 .number-at-22 .ensures, c .before .number-at-4 .ensures, c .number-at-42 .ensures), c8 .read-lists .ensures)
+    let classes = c .before .before in
+    let lines = classes .before in (
+      rw (lines .lines-in .ensures, classes .classes-in .ensures, c .before .gates-in .ensures, c .vectors-in .ensures),
+      listed (lines .before) .read-lists .ensures,
+    )
 
 pub read-image-spec : {M : Type 1} → statement M
 read-image-spec =
     tie.close
     (tie.spec
     read-lists-requires
-    number-at-2-requires
-    number-at-2-requires-2
-    number-at-4-requires
-    number-at-4-requires-2
+    lines-in-requires
+    classes-in-requires
+    gates-in-requires
+    vectors-in-requires
     same-length
     same-length-2
     returns)

@@ -1,18 +1,33 @@
 -- `job::reading::read_lists` meets its contract: the words are read into the fronts of the lists, and the rest of them is kept. Assumes nothing.
-use Prim.Native.Nat.{_*_}
-use mathlib.Core.Path.{ap, ap₂, sym, _∙_}
-use mathlib.Core.List.{_++_}
+use Prim.Native.Nat.{_*_, _≤_}
+use mathlib.Core.Path.{_≡_, sym}
 use native.Mathlib.Omega.{arith}
-use lib.ListN.{drop}
+use lib.ListN.{length, take}
 use lib.Seq.{length-take-le}
-use Rattle.job.specs.Image.{gatesIn, vectorsIn}
-use Rattle.job.proofs.ImageLaws.{length-gate-words, length-vector-words, gate-words, vector-words}
+use Rattle.job.proofs.ImageLaws.{gates-onto, vectors-onto}
 use borrow.Author.Needs.{needs}
 use Rattle.job.proofs.reading.read_lists.Statement.{statement}
 use Rattle.job.proofs.reading.read_lists.Tie as tie
 
-number-at-4-requires : tie.Need-number-at-4-requires
-number-at-4-requires c κs = search needs
+-- the entry, and the place where both counts are known
+abbrev entry : tie.After-vectors-in → tie.Start
+entry c = c .before .before .before .before .before
+
+abbrev counted : tie.After-slice-known3 → tie.After-vectors-in
+counted c = c .before .before .before .before
+
+-- the counts fit the lists
+fits : (c : tie.After-vectors-in)
+    → (3 * c .before .gates-in .result ≤ length (entry c .args .gates .now)) × (c .vectors-in .result ≤ length (entry c .args .vectors .now))
+fits c = (omega arith, omega arith)
+
+fronts : (c : tie.After-vectors-in)
+    → (length (take (3 * c .before .gates-in .result) (entry c .args .gates .now)) ≡ 3 * c .before .gates-in .result)
+    × (length (take (c .vectors-in .result) (entry c .args .vectors .now)) ≡ c .vectors-in .result)
+fronts c = (length-take-le _ _ (fits c .0), length-take-le _ _ (fits c .1))
+
+gates-in-requires : tie.Need-gates-in-requires
+gates-in-requires c κs = search needs
 
 cast-words : tie.Need-cast-words
 cast-words c = search needs
@@ -20,29 +35,20 @@ cast-words c = search needs
 mul-words : tie.Need-mul-words
 mul-words c = search needs
 
-number-at-4-requires-2 : tie.Need-number-at-4-requires-2
-number-at-4-requires-2 c κs = search needs
+vectors-in-requires : tie.Need-vectors-in-requires
+vectors-in-requires c κs = search needs
 
 cast-count : tie.Need-cast-count
 cast-count c = search needs
 
 slice-relend-prefix-read-words : tie.Need-slice-relend-prefix-read-words
-unfolding gatesIn vectorsIn
-slice-relend-prefix-read-words c = omega arith
+slice-relend-prefix-read-words c = fits c .0
 
 slice-aggregate-read-words : tie.Need-slice-aggregate-read-words
-unfolding gatesIn vectorsIn
-slice-aggregate-read-words c =
-    let c2 = c .before .before in
-    let c6 = c2 .before .before .before .before in
-    sym (length-take-le (3 * c2 .number-at-4 .result) (c6 .args .gates .now) (omega arith))
+slice-aggregate-read-words c = sym (fronts (c .before) .0)
 
 read-words-requires : tie.Need-read-words-requires
-unfolding gatesIn vectorsIn
-read-words-requires c κs =
-    let c2 = c .before .before in
-    let c6 = c2 .before .before .before .before in
-    rw (length-take-le (3 * c2 .number-at-4 .result) (c6 .args .gates .now) (omega arith)) (omega arith)
+read-words-requires c κs = rw (fronts (c .before) .0) (omega arith)
 
 mul-read-words : tie.Need-mul-read-words
 mul-read-words c = search needs
@@ -51,22 +57,13 @@ add-read-words : tie.Need-add-read-words
 add-read-words c = search needs
 
 slice-relend-prefix-read-words-2 : tie.Need-slice-relend-prefix-read-words-2
-unfolding gatesIn vectorsIn
-slice-relend-prefix-read-words-2 c = omega arith
+slice-relend-prefix-read-words-2 c = fits (counted c) .1
 
 slice-aggregate-read-words-2 : tie.Need-slice-aggregate-read-words-2
-unfolding gatesIn vectorsIn
-slice-aggregate-read-words-2 c =
-    let c5 = c .before .before .before .before .before in
-    let c10 = c5 .before .before .before .before .before in
-    sym (length-take-le (c5 .number-at-42 .result) (c10 .args .vectors .now) (omega arith))
+slice-aggregate-read-words-2 c = sym (fronts (counted (c .before)) .1)
 
 read-words-requires-2 : tie.Need-read-words-requires-2
-unfolding gatesIn vectorsIn
-read-words-requires-2 c κs =
-    let c5 = c .before .before .before .before .before in
-    let c10 = c5 .before .before .before .before .before in
-    rw (length-take-le (c5 .number-at-42 .result) (c10 .args .vectors .now) (omega arith)) (omega arith)
+read-words-requires-2 c κs = rw (fronts (counted (c .before)) .1) (omega arith)
 
 same-length : tie.Need-same-length
 same-length c = search needs
@@ -75,31 +72,23 @@ same-length-2 : tie.Need-same-length-2
 same-length-2 c = search needs
 
 returns : tie.Need-returns
-unfolding gatesIn vectorsIn
 returns c =
-    let c2 = c .before .before in
-    let c6 = c2 .before .before .before .before in
-    let c8 = c6 .before .before in
-    let c9 = c8 .before in
-    let c13 = c9 .before .before .before .before in
-    let a = c13 .args in
-    let d = c9 .number-at-4 in
-    let m = c8 .number-at-42 in
-    let k = length-take-le (3 * d .result) (a .gates .now) (omega arith) in
-    let l = length-take-le (m .result) (a .vectors .now) (omega arith) in (
-      ap₂ _++_ (c6 .read-words .ensures ∙ gate-words (a .image .now) _ (omega arith)) (ap (λ i. drop i (a .gates .now)) (ap (λ i. 3 * i) (d .ensures) ∙ sym (length-gate-words (a .image .now)))),
-      ap₂ _++_ (c2 .read-words2 .ensures ∙ vector-words (a .image .now) _ _ (omega arith) (omega arith))
-          (ap (λ i. drop i (a .vectors .now)) (m .ensures ∙ sym (length-vector-words (a .image .now)))),
+    let vectors = c .before .before in
+    let gates = vectors .before .before .before .before in
+    let counts = gates .before .before in
+    let bytes = entry counts .args .image .now in (
+      gates-onto bytes _ _ _ (counts .before .gates-in .ensures) (fits counts .0) (gates .read-words .ensures),
+      vectors-onto bytes _ _ _ _ (counts .vectors-in .ensures) (omega arith) (fits counts .1) (vectors .read-words2 .ensures),
     )
 
 pub read-lists-spec : {M : Type 1} → statement M
 read-lists-spec =
     tie.close
     (tie.spec
-    number-at-4-requires
+    gates-in-requires
     cast-words
     mul-words
-    number-at-4-requires-2
+    vectors-in-requires
     cast-count
     slice-relend-prefix-read-words
     slice-aggregate-read-words

@@ -3,7 +3,7 @@ use Rattle.circuit.proofs.RuleLaws.{first-bad-le, first-vector-le}
 use native.Mathlib.Omega.{arith}
 use mathlib.Core.Path.{ap, _∙_}
 use Rattle.refusals.specs.Checks.{found}
-use Rattle.job.proofs.RuleLaws.{content-rows}
+use Rattle.job.proofs.TurnLaws.{content-rows}
 use borrow.Author.Needs.{needs}
 use Rattle.job.proofs.rules.check_content.Statement.{statement}
 use Rattle.job.proofs.rules.check_content.Tie as tie

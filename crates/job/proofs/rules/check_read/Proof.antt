@@ -1,10 +1,26 @@
 -- `job::rules::check_read` meets its contract: the header, what it holds, and the room are the parts of the table, in their order. Assumes nothing.
-use mathlib.Core.Path.{ap, sym, _∙_}
-use Rattle.refusals.specs.Checks.{found}
-use Rattle.job.proofs.RuleLaws.{header-ok, read-header, read-rest}
+use mathlib.Core.Path.{_≡_, ap, sym, _∙_}
+use Rattle.refusals.specs.Tables.{firstOf}
+use Rattle.refusals.specs.Checks.{fine, found}
+use Rattle.job.specs.Rules.{headerRows}
+use Rattle.job.proofs.HeaderLaws.{header-ok}
+use Rattle.job.proofs.ReadLaws.{read-header, read-rest}
 use borrow.Author.Needs.{needs}
 use Rattle.job.proofs.rules.check_read.Statement.{statement}
 use Rattle.job.proofs.rules.check_read.Tie as tie
+
+-- the entry, the place where the header has passed, and that where the content has been checked
+abbrev entry : tie.After-check-header → tie.Start
+entry c = c .before .before .before .before
+
+abbrev told : tie.After-check-read-into → tie.After-enum-told
+told c = c .before .before .before
+
+abbrev checked : tie.After-slice-known4 → tie.After-check-read-into
+checked c = c .before .before .before .before
+
+passed : (c : tie.After-enum-told) → fine ≡ firstOf (headerRows (entry (c .before .before) .args .image .now)) fine
+passed c = ap found (sym (c .enum-told .given .1)) ∙ c .before .before .check-header .ensures
 
 check-header-requires : tie.Need-check-header-requires
 check-header-requires c κs = search needs
@@ -19,13 +35,10 @@ enum-told : tie.Need-enum-told
 enum-told c = search needs
 
 check-read-into-requires : tie.Need-check-read-into-requires
-check-read-into-requires c κs =
-    (ap found (sym (c .before .before .enum-told .given .1)) ∙ c .before .before .before .before .check-header .ensures, search needs)
+check-read-into-requires c κs = (passed (c .before .before), search needs)
 
 bad-room-requires : tie.Need-bad-room-requires
-bad-room-requires c κs =
-    let c7 = c .before .before .before .before .before .before .before in
-    header-ok _ (ap found (sym (c7 .enum-told .given .1)) ∙ c7 .before .before .check-header .ensures) .long
+bad-room-requires c κs = header-ok _ (passed (told (checked c))) .long
 
 unless-requires : tie.Need-unless-requires
 unless-requires c κs = search needs
@@ -41,13 +54,11 @@ same-length-2 c = search needs
 
 returns-2 : tie.Need-returns-2
 returns-2 c =
-    let c2 = c .before .before in
-    let c7 = c2 .before .before .before .before .before in
-    let c10 = c7 .before .before .before in
+    let room = c .before .before in
+    let content = checked (room .before) in
     ap found (c .sooner .ensures)
-    ∙ read-rest _ _ _ (c2 .bad-room .result) (c7 .check-read-into .result) (c .before .unless .result)
-    (ap found (sym (c10 .enum-told .given .1)) ∙ c10 .before .before .check-header .ensures) (c7 .check-read-into .ensures)
-    (c2 .bad-room .ensures) (c .before .unless .ensures)
+    ∙ read-rest _ _ _ (room .bad-room .result) (content .check-read-into .result) (c .before .unless .result)
+    (passed (told content)) (content .check-read-into .ensures) (room .bad-room .ensures) (c .before .unless .ensures)
 
 pub check-read-spec : {M : Type 1} → statement M
 check-read-spec =

@@ -1,34 +1,55 @@
 -- `job::rules::check_read_into` meets its contract: the fronts of the lists are the gates and the vectors of the image. Assumes nothing.
-use Prim.Native.Nat.{_*_}
-use mathlib.Core.Path.{sym, _∙_}
+use Prim.Native.Nat.{_*_, _≤_}
+use mathlib.Core.Path.{_≡_, sym, _∙_}
 use native.Mathlib.Omega.{arith}
+use lib.ListN.{length, take}
 use lib.Seq.{length-take-le}
-use Rattle.job.specs.Image.{linesIn, gatesIn, vectorsIn}
 use Rattle.job.proofs.ImageLaws.{gates-front, vectors-front}
-use Rattle.job.proofs.RuleLaws.{header-ok, content-in}
+use Rattle.job.proofs.HeaderLaws.{HeaderOk, header-ok}
+use Rattle.job.proofs.TurnLaws.{content-in}
 use borrow.Author.Needs.{needs}
 use Rattle.job.proofs.rules.check_read_into.Statement.{statement}
 use Rattle.job.proofs.rules.check_read_into.Tie as tie
 
+-- the entry, and the place where the lists have been read
+abbrev entry : tie.After-read-lists → tie.Start
+entry c = c .before .before .before .before .before .before
+
+abbrev listed : tie.After-slice-known4 → tie.After-read-lists
+listed c = c .before .before .before .before
+
+abbrev lists : tie.After-vectors-in → tie.After-read-lists
+lists c = listed (c .before .before .before)
+
+head : (c : tie.Start) → HeaderOk (c .args .image .now)
+head c = header-ok (c .args .image .now) (c .pre .0)
+
+-- the counts fit the lists
+fits : (c : tie.After-vectors-in)
+    → (3 * c .before .gates-in .result ≤ length (lists c .read-lists .last .1 .0))
+    × (c .vectors-in .result ≤ length (lists c .read-lists .last .1 .1 .0))
+fits c =
+    let h = head (entry (lists c)) in
+    let kept = lists c .read-lists .kept .1 in
+    (omega (arith, kept .0), omega (arith, kept .1 .0))
+
+fronts : (c : tie.After-vectors-in)
+    → (length (take (3 * c .before .gates-in .result) (lists c .read-lists .last .1 .0)) ≡ 3 * c .before .gates-in .result)
+    × (length (take (c .vectors-in .result) (lists c .read-lists .last .1 .1 .0)) ≡ c .vectors-in .result)
+fronts c = (length-take-le _ _ (fits c .0), length-take-le _ _ (fits c .1))
+
 read-lists-requires : tie.Need-read-lists-requires
-unfolding linesIn gatesIn vectorsIn
 read-lists-requires c κs =
-    let c5 = c .before .before .before .before .before in
-    let h = header-ok (c5 .args .image .now) (c5 .pre .0) in
-    let p = c5 .pre .1 in
+    let s = c .before .before .before .before .before in
+    let h = head s in
+    let room = s .pre .1 in
     (h .whole, (omega arith, omega arith))
 
-number-at-2-requires : tie.Need-number-at-2-requires
-number-at-2-requires c κs =
-    let c10 = c .before .before .before .before .before .before .before .before .before .before in
-    let h = header-ok (c10 .args .image .now) (c10 .pre .0) in
-    omega arith
+lines-in-requires : tie.Need-lines-in-requires
+lines-in-requires c κs = head (entry (listed c)) .long
 
-number-at-4-requires : tie.Need-number-at-4-requires
-number-at-4-requires c κs =
-    let c11 = c .before .before .before .before .before .before .before .before .before .before .before in
-    let h = header-ok (c11 .args .image .now) (c11 .pre .0) in
-    omega arith
+gates-in-requires : tie.Need-gates-in-requires
+gates-in-requires c κs = head (entry (listed (c .before))) .long
 
 cast-words : tie.Need-cast-words
 cast-words c = search needs
@@ -36,59 +57,29 @@ cast-words c = search needs
 mul-words : tie.Need-mul-words
 mul-words c = search needs
 
-number-at-4-requires-2 : tie.Need-number-at-4-requires-2
-number-at-4-requires-2 c κs =
-    let c12 = c .before .before .before .before .before .before .before .before .before .before .before .before in
-    let h = header-ok (c12 .args .image .now) (c12 .pre .0) in
-    omega arith
+vectors-in-requires : tie.Need-vectors-in-requires
+vectors-in-requires c κs = head (entry (listed (c .before .before))) .long
 
 cast-count : tie.Need-cast-count
 cast-count c = search needs
 
 slice-reshare-prefix-check-content : tie.Need-slice-reshare-prefix-check-content
-unfolding linesIn gatesIn vectorsIn
-slice-reshare-prefix-check-content c =
-    let c7 = c .before .before .before .before .before .before .before in
-    let c13 = c7 .before .before .before .before .before .before in
-    let h = header-ok (c13 .args .image .now) (c13 .pre .0) in
-    omega (arith, c7 .read-lists .kept .1 .0)
+slice-reshare-prefix-check-content c = fits c .0
 
 slice-aggregate-check-content : tie.Need-slice-aggregate-check-content
-unfolding linesIn gatesIn vectorsIn
-slice-aggregate-check-content c =
-    let c2 = c .before .before in
-    let c8 = c2 .before .before .before .before .before .before in
-    let c14 = c8 .before .before .before .before .before .before in
-    let h = header-ok (c14 .args .image .now) (c14 .pre .0) in
-    sym (length-take-le (3 * c2 .number-at-4 .result) (c8 .read-lists .last .1 .0) (omega (arith, c8 .read-lists .kept .1 .0)))
+slice-aggregate-check-content c = sym (fronts (c .before) .0)
 
 slice-reshare-prefix-check-content-2 : tie.Need-slice-reshare-prefix-check-content-2
-unfolding linesIn gatesIn vectorsIn
-slice-reshare-prefix-check-content-2 c =
-    let c8 = c .before .before .before .before .before .before .before .before in
-    let c14 = c8 .before .before .before .before .before .before in
-    let h = header-ok (c14 .args .image .now) (c14 .pre .0) in
-    omega (arith, c8 .read-lists .kept .1 .1 .0)
+slice-reshare-prefix-check-content-2 c = fits (c .before) .1
 
 slice-aggregate-check-content-2 : tie.Need-slice-aggregate-check-content-2
-unfolding linesIn gatesIn vectorsIn
-slice-aggregate-check-content-2 c =
-    let c2 = c .before .before in
-    let c9 = c2 .before .before .before .before .before .before .before in
-    let c15 = c9 .before .before .before .before .before .before in
-    let h = header-ok (c15 .args .image .now) (c15 .pre .0) in
-    sym (length-take-le (c2 .number-at-42 .result) (c9 .read-lists .last .1 .1 .0) (omega (arith, c9 .read-lists .kept .1 .1 .0)))
+slice-aggregate-check-content-2 c = sym (fronts (c .before .before) .1)
 
 check-content-requires : tie.Need-check-content-requires
-unfolding linesIn gatesIn vectorsIn
 check-content-requires c κs =
-    let c2 = c .before .before in
-    let c3 = c2 .before in
-    let c9 = c3 .before .before .before .before .before .before in
-    let c15 = c9 .before .before .before .before .before .before in
-    let h = header-ok (c15 .args .image .now) (c15 .pre .0) in
-    let g = length-take-le (3 * c3 .number-at-4 .result) (c9 .read-lists .last .1 .0) (omega (arith, c9 .read-lists .kept .1 .0)) in
-    let v = length-take-le (c2 .number-at-42 .result) (c9 .read-lists .last .1 .1 .0) (omega (arith, c9 .read-lists .kept .1 .1 .0)) in
+    let counts = c .before .before in
+    let h = head (entry (lists counts)) in
+    let f = fronts counts in
     (omega arith, (omega arith, omega arith))
 
 same-length : tie.Need-same-length
@@ -99,27 +90,23 @@ same-length-2 c = search needs
 
 returns : tie.Need-returns
 returns c =
-    let c3 = c .before .before .before in
-    let c4 = c3 .before in
-    let c5 = c4 .before in
-    let c10 = c5 .before .before .before .before .before in
-    let c16 = c10 .before .before .before .before .before .before in
-    let b = c16 .args .image .now in
-    let lists = c10 .read-lists in
+    let counts = c .before .before .before in
+    let read = lists counts .read-lists .ensures in
+    let bytes = entry (lists counts) .args .image .now in
     c .check-content .ensures
-    ∙ content-in b _ _ _ (c5 .number-at-2 .ensures) (gates-front b _ _ _ (lists .ensures .0) (c4 .number-at-4 .ensures))
-    (vectors-front b _ _ _ (lists .ensures .1) (c3 .number-at-42 .ensures))
+    ∙ content-in bytes _ _ _ (counts .before .before .lines-in .ensures) (gates-front bytes _ _ _ (read .0) (counts .before .gates-in .ensures))
+    (vectors-front bytes _ _ _ (read .1) (counts .vectors-in .ensures))
 
 pub check-read-into-spec : {M : Type 1} → statement M
 check-read-into-spec =
     tie.close
     (tie.spec
     read-lists-requires
-    number-at-2-requires
-    number-at-4-requires
+    lines-in-requires
+    gates-in-requires
     cast-words
     mul-words
-    number-at-4-requires-2
+    vectors-in-requires
     cast-count
     slice-reshare-prefix-check-content
     slice-aggregate-check-content

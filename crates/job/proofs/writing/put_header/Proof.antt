@@ -16,17 +16,20 @@ put-2-requires-3 c κs = search needs
 put-2-requires-4 : tie.Need-put-2-requires-4
 put-2-requires-4 c κs = search needs
 
+cast-past-header : tie.Need-cast-past-header
+cast-past-header c = search needs
+
 mul-past-gates : tie.Need-mul-past-gates
 mul-past-gates c = search needs
 
 add-past-gates : tie.Need-add-past-gates
 add-past-gates c = search needs
 
-mul-t17 : tie.Need-mul-t17
-mul-t17 c = search needs
+mul-past-vectors : tie.Need-mul-past-vectors
+mul-past-vectors c = search needs
 
-add-t18 : tie.Need-add-t18
-add-t18 c = search needs
+add-past-vectors : tie.Need-add-past-vectors
+add-past-vectors c = search needs
 
 slice-aggregate-put-words : tie.Need-slice-aggregate-put-words
 slice-aggregate-put-words c = search needs
@@ -39,11 +42,12 @@ same-length c = search needs
 
 returns : tie.Need-returns
 returns c =
-    let c2 = c .before .before in
-    let c7 = c2 .before .before .before .before .before in
-    let c11 = c7 .before .before .before .before in
-    let c15 = c11 .before .before .before .before in
-    rw (c2 .put-words .ensures, c7 .put-24 .ensures, c11 .put-23 .ensures, c15 .put-22 .ensures, c15 .before .before .before .before .put-2 .ensures)
+    let sizes = c .before .before in
+    let nothing = sizes .before .before .before .before .before in
+    let classes = nothing .before .before .before .before in
+    let lines = classes .before .before .before .before in
+    let form = lines .before .before .before .before in
+    rw (sizes .put-words .ensures, nothing .put-24 .ensures, classes .put-23 .ensures, lines .put-22 .ensures, form .put-2 .ensures)
     (put-header _ _ _ _ _)
 
 pub put-header-spec : {M : Type 1} → statement M
@@ -54,10 +58,11 @@ put-header-spec =
     put-2-requires-2
     put-2-requires-3
     put-2-requires-4
+    cast-past-header
     mul-past-gates
     add-past-gates
-    mul-t17
-    add-t18
+    mul-past-vectors
+    add-past-vectors
     slice-aggregate-put-words
     put-words-requires
     same-length

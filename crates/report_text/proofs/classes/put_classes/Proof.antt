@@ -6,7 +6,7 @@ use lib.ListN.{length}
 use lib.Seq.{sets}
 use Rattle.basics.specs.Lists.{upFrom, each}
 use Rattle.circuit.specs.Gates.{gatesOf}
-use Rattle.report_text.specs.Report.{classText, wanted}
+use Rattle.report_text.specs.Report.{classLines}
 use Rattle.report_text.specs.Parts.{wantedText}
 use Rattle.report_text.proofs.ClassLaws.{wanted-text, turn-room, turn-put, turn-end}
 use Rattle.report_text.proofs.classes.put_classes.Statement.{statement}
@@ -16,9 +16,9 @@ abbrev Inv-loop : tie.InvT-loop
 Inv-loop out₀ at lines gates vectors classes end₀ class₀ out end class =
     (1 ≤ class) × ((class ≤ 5) × ((length out ≡ length out₀)
     × ((end + length (each (wantedText lines (gatesOf gates) vectors classes) (upFrom class (5 - class)))
-    ≡ at + length (each (classText lines (gatesOf gates) vectors) (wanted classes)))
+    ≡ at + length (classLines lines classes gates vectors))
     × (sets out end (each (wantedText lines (gatesOf gates) vectors classes) (upFrom class (5 - class)))
-    ≡ sets out₀ at (each (classText lines (gatesOf gates) vectors) (wanted classes))))))
+    ≡ sets out₀ at (classLines lines classes gates vectors)))))
 
 abbrev μ-loop : tie.MeasureT-loop
 μ-loop out₀ at lines gates vectors classes end₀ class₀ out end class = 5 - class

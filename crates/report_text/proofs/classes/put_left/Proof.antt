@@ -1,54 +1,63 @@
 -- `report_text::classes::put_left` meets its contract: what a class shows of a fault is the front of all its numbers. Assumes nothing.
-use mathlib.Core.Path.{sym}
-use mathlib.Core.List.{[], _∷_}
+use Prim.Native.Nat.{ℕ, _≤_}
+use mathlib.Core.Path.{_≡_, sym}
+use mathlib.Core.Bool.{false}
+use mathlib.Core.List.{List, [], _∷_}
+use lib.ListN.{take}
 use lib.Seq.{length-take-le}
 use Rattle.text.proofs.TextLaws.{room-as, put-as}
+use Rattle.report_text.specs.Report.{letterOf, shown}
+use Rattle.report_text.specs.Parts.{numbersLine}
 use Rattle.report_text.proofs.ClassLaws.{numbers-most, left-line}
 use borrow.Author.Needs.{needs}
 use Rattle.report_text.proofs.classes.put_left.Statement.{statement}
 use Rattle.report_text.proofs.classes.put_left.Tie as tie
 
-numbers-of-requires : tie.Need-numbers-of-requires
-numbers-of-requires c κs = search needs
+-- the entry, and all the numbers there are
+abbrev entry : tie.After-letter-of → tie.Start
+entry c = c .before .before .before .before
+
+abbrev all : tie.Start → List ℕ
+all c = c .args .caught ∷ c .args .total ∷ c .args .first .place ∷ c .args .first .line ∷ c .args .first .value ∷ []
+
+-- how many of them are shown
+few : (c : tie.After-letter-of) → c .before .before .numbers-shown .result ≤ 5
+few c = rw (c .before .before .numbers-shown .ensures) (numbers-most (entry c .args .class))
+
+line : (c : tie.After-letter-of)
+    → numbersLine (c .letter-of .result) (take (c .before .before .numbers-shown .result) (all (entry c))) false
+    ≡ numbersLine (letterOf (entry c .args .class))
+    (entry c .args .caught ∷ entry c .args .total ∷ shown (entry c .args .class) (entry c .args .first)) false
+line c =
+    let a = entry c .args in
+    left-line (a .class) (a .caught) (a .total) (a .first) _ _ (c .before .before .numbers-shown .ensures) (c .letter-of .ensures)
+
+numbers-shown-requires : tie.Need-numbers-shown-requires
+numbers-shown-requires c κs = search needs
 
 letter-of-requires : tie.Need-letter-of-requires
 letter-of-requires c κs = search needs
 
 array-share-prefix-numbers : tie.Need-array-share-prefix-numbers
-array-share-prefix-numbers c = rw (c .before .before .numbers-of .ensures) (numbers-most (c .before .before .before .before .args .class))
+array-share-prefix-numbers c = few c
 
 slice-aggregate-put-line : tie.Need-slice-aggregate-put-line
-slice-aggregate-put-line c =
-    let a = c .before .before .before .before .before .args in
-    let count = c .before .before .before .numbers-of in
-    sym (length-take-le (count .result) (a .caught ∷ a .total ∷ a .first .place ∷ a .first .line ∷ a .first .value ∷ [])
-    (rw (count .ensures) (numbers-most (a .class))))
+slice-aggregate-put-line c = sym (length-take-le _ (all (entry (c .before))) (few (c .before)))
 
 put-line-requires : tie.Need-put-line-requires
-put-line-requires c κs =
-    let c3 = c .before .before .before in
-    let a = c3 .before .before in
-    room-as _ _
-    (left-line (a .args .class) (a .args .caught) (a .args .total) (a .args .first) _ _ (c3 .numbers-of .ensures) (c .before .letter-of .ensures))
-    (a .pre)
+put-line-requires c κs = room-as _ _ (line (c .before)) (entry (c .before) .pre)
 
 same-length : tie.Need-same-length
 same-length c = search needs
 
 returns : tie.Need-returns
-returns c =
-    let c4 = c .before .before .before .before in
-    let c6 = c4 .before .before in
-    let c8 = c6 .before .before in
-    let a = c8 .args in
-    put-as _ _ _ _ (left-line (a .class) (a .caught) (a .total) (a .first) _ _ (c6 .numbers-of .ensures) (c4 .letter-of .ensures))
-    (c .before .before .put-line .ensures)
+returns c = put-as _ _ _ _ (line (c .before .before .before .before)) (c .before .before .put-line .ensures)
 
 pub put-left-spec : {M : Type 1} → statement M
 put-left-spec =
     tie.close
     (tie.spec
-    numbers-of-requires
+    numbers-shown-requires
     letter-of-requires
     array-share-prefix-numbers
     slice-aggregate-put-line

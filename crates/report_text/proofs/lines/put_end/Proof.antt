@@ -1,4 +1,4 @@
--- `report_text::text::put_end` meets its contract: it puts one text or the other. Assumes nothing.
+-- `report_text::lines::put_end` meets its contract: it puts one text or the other. Assumes nothing.
 use Rattle.text.proofs.TextLaws.{room-as, put-as}
 use Rattle.report_text.proofs.LineLaws.{end-bare, end-ok}
 use borrow.Author.Needs.{needs}

@@ -1,20 +1,20 @@
--- `report_text::text::put_fields` meets its contract: each turn puts one field, and those left make the rest of the text. Assumes nothing.
+-- `report_text::lines::put_spaced` meets its contract: each turn puts one number, and those left make the rest of the text. Assumes nothing.
 use Prim.Native.Nat.{_+_, _-_, _<_, _≤_}
 use mathlib.Core.Path.{_≡_, refl, sym, _∙_}
 use native.Mathlib.Omega.{arith}
 use lib.ListN.{length, drop, length-set}
 use lib.Seq.{sets}
 use Rattle.basics.specs.Lists.{each}
-use Rattle.report_text.specs.Lines.{field}
-use Rattle.report_text.proofs.LineLaws.{fields-room, fields-put, fields-end}
-use Rattle.report_text.proofs.lines.put_fields.Statement.{statement}
-use Rattle.report_text.proofs.lines.put_fields.Tie as tie
+use Rattle.report_text.specs.Lines.{spaced}
+use Rattle.report_text.proofs.LineLaws.{spaced-room, spaced-put, spaced-end}
+use Rattle.report_text.proofs.lines.put_spaced.Statement.{statement}
+use Rattle.report_text.proofs.lines.put_spaced.Tie as tie
 
 abbrev Inv-loop : tie.InvT-loop
 Inv-loop out₀ at numbers end₀ i₀ out end i = (i ≤ length numbers)
     × ((length out ≡ length out₀)
-    × ((end + length (each field (drop i numbers)) ≡ at + length (each field numbers))
-    × (sets out end (each field (drop i numbers)) ≡ sets out₀ at (each field numbers))))
+    × ((end + length (each spaced (drop i numbers)) ≡ at + length (each spaced numbers))
+    × (sets out end (each spaced (drop i numbers)) ≡ sets out₀ at (each spaced numbers))))
 
 abbrev μ-loop : tie.MeasureT-loop
 μ-loop out₀ at numbers end₀ i₀ out end i = length numbers - i
@@ -24,7 +24,7 @@ loop-holds c = (omega arith, (refl, (refl, refl)))
 
 slice-write-out : tie.Need-slice-write-out Inv-loop μ-loop
 slice-write-out c =
-    let w = fields-room (c .before .before .before .before .args .numbers .now) (c .before .loop .i) (c .before .loop .end) _ (omega arith) refl in
+    let w = spaced-room (c .before .before .before .before .args .numbers .now) (c .before .loop .i) (c .before .loop .end) _ (omega arith) refl in
     omega arith
 
 add-put-decimal : tie.Need-add-put-decimal Inv-loop μ-loop
@@ -40,7 +40,7 @@ put-decimal-requires : tie.Need-put-decimal-requires Inv-loop μ-loop
 put-decimal-requires c κs =
     let l = c .before .before .before in
     let a = l .before .before .before .args in
-    let w = fields-room (a .numbers .now) (l .loop .i) (l .loop .end) _ (omega arith) refl in
+    let w = spaced-room (a .numbers .now) (l .loop .i) (l .loop .end) _ (omega arith) refl in
     rw (length-set (l .loop .out) (l .loop .end) 32) (omega arith)
 
 add-i : tie.Need-add-i Inv-loop μ-loop
@@ -59,9 +59,9 @@ loop-again c =
       (
         put .kept .0 ∙ length-set (l .loop .out) (l .loop .end) 32 ∙ l .loop .inv .1 .0,
         (
-          fields-room (a .numbers .now) (l .loop .i) (l .loop .end) _ h (put .ensures .0) ∙ l .loop .inv .1 .1 .0,
+          spaced-room (a .numbers .now) (l .loop .i) (l .loop .end) _ h (put .ensures .0) ∙ l .loop .inv .1 .1 .0,
           rw (put .ensures .1)
-              (fields-put (a .numbers .now) (l .loop .i) (l .loop .end) _ h (put .ensures .0) (l .loop .out)) ∙ l .loop .inv .1 .1 .1,
+              (spaced-put (a .numbers .now) (l .loop .i) (l .loop .end) _ h (put .ensures .0) (l .loop .out)) ∙ l .loop .inv .1 .1 .1,
         ),
       ),
     )
@@ -73,11 +73,11 @@ returns : tie.Need-returns Inv-loop μ-loop
 returns c =
     let l = c .before .loop in
     let a = c .before .before .before .before .args in
-    let w = fields-end (a .numbers .now) (l .out) (l .i) (l .end) (omega arith) in
+    let w = spaced-end (a .numbers .now) (l .out) (l .i) (l .end) (omega arith) in
     (sym (w .0) ∙ l .inv .1 .1 .0, sym (w .1) ∙ l .inv .1 .1 .1)
 
-pub put-fields-spec : {M : Type 1} → statement M
-put-fields-spec =
+pub put-spaced-spec : {M : Type 1} → statement M
+put-spaced-spec =
     tie.close
     (tie.spec
     Inv-loop
