@@ -1,5 +1,5 @@
--- Demand 1: each call answers or refuses; it refuses with number k and place p exactly if rule k is the first broken one, in
--- number order with 10 last, and p is its place; and a refusal leaves every lent byte, vector and record as it was.
+-- Demand 1: each call answers or refuses; it refuses with number k and place p exactly if rule k is the first broken one, in the
+-- order of `Refusing.order`, and p is its place; and a refusal leaves every lent byte, vector and record as it was.
 use mathlib.Core.Path.{refl}
 use mathlib.Core.List.{[], _∷_, _++_}
 use lib.ListN.{length}
@@ -40,7 +40,7 @@ use Rattle.report_text.specs.Rules.{reportRows}
 use Rattle.report_text.specs.Answers.{toldReported}
 use Rattle.report_text.proofs.report.Reads as report
 use Rattle.demands.proofs.FirstBroken.{exactly}
-use Rattle.demands.proofs.Refusing.{Refuses, Leaves, refusal-leaves}
+use Rattle.demands.proofs.Refusing.{in-turn, Refuses, Leaves, refusal-leaves}
 
 -- ---- the calls, each with its table and the numbers of its rules in the order in which they are checked
 
@@ -49,51 +49,51 @@ pub forward-refuses : Refuses forward.Post (λ κs. told)
     (λ κs a. runRows (a .0) (now (a .1 .0)) (a .1 .1 .0) (a .1 .1 .1 .0))
     (3 ∷ 5 ∷ 7 ∷ 8 ∷ 12 ∷ [])
 unfolding runRows levelRows circuitSetRows circuitRows vectorRows
-forward-refuses = record { its-numbers = λ κs a. refl; in-order = refl; exact = λ κs a r e p. (_, exactly _ _ _ p) }
+forward-refuses = record { its-numbers = λ κs a. refl; in-order = in-turn _ _ refl; exact = λ κs a r e p. (_, exactly _ _ _ p) }
 
 pub backward-refuses : Refuses backward.Post (λ κs. told)
     (λ κs a. runRows (a .0) (now (a .1 .0)) (a .1 .1 .0) (a .1 .1 .1 .0))
     (3 ∷ 5 ∷ 7 ∷ 8 ∷ 12 ∷ [])
 unfolding runRows levelRows circuitSetRows circuitRows vectorRows
-backward-refuses = record { its-numbers = λ κs a. refl; in-order = refl; exact = λ κs a r e p. (_, exactly _ _ _ p) }
+backward-refuses = record { its-numbers = λ κs a. refl; in-order = in-turn _ _ refl; exact = λ κs a r e p. (_, exactly _ _ _ p) }
 
 -- simulator
 pub faulty-run-refuses : Refuses faulty-run.Post (λ κs. told)
     (λ κs a. catchRows (a .0) (now (a .1 .0)) (a .1 .1 .0) (a .1 .1 .1 .0))
     (3 ∷ 5 ∷ 7 ∷ 8 ∷ 9 ∷ [])
 unfolding catchRows faultRows circuitSetRows circuitRows vectorRows
-faulty-run-refuses = record { its-numbers = λ κs a. refl; in-order = refl; exact = λ κs a r e p. (_, exactly _ _ _ p) }
+faulty-run-refuses = record { its-numbers = λ κs a. refl; in-order = in-turn _ _ refl; exact = λ κs a r e p. (_, exactly _ _ _ p) }
 
 pub catches-refuses : Refuses catches.Post (λ κs. toldCaught)
     (λ κs a. catchRows (a .0) (now (a .1 .0)) (a .1 .1 .0) (a .1 .1 .1 .0))
     (3 ∷ 5 ∷ 7 ∷ 8 ∷ 9 ∷ [])
 unfolding catchRows faultRows circuitSetRows circuitRows vectorRows
-catches-refuses = record { its-numbers = λ κs a. refl; in-order = refl; exact = λ κs a r e p. (_, exactly _ _ _ p) }
+catches-refuses = record { its-numbers = λ κs a. refl; in-order = in-turn _ _ refl; exact = λ κs a r e p. (_, exactly _ _ _ p) }
 
 pub catches-multiple-refuses : Refuses catches-multiple.Post (λ κs. toldCaught)
     (λ κs a. multipleRows (a .0) (now (a .1 .0)) (a .1 .1 .0) (now (a .1 .1 .1 .0)))
     (3 ∷ 5 ∷ 7 ∷ 8 ∷ 9 ∷ 13 ∷ [])
 unfolding multipleRows entriesRows circuitSetRows circuitRows vectorRows
-catches-multiple-refuses = record { its-numbers = λ κs a. refl; in-order = refl; exact = λ κs a r e p. (_, exactly _ _ _ p) }
+catches-multiple-refuses = record { its-numbers = λ κs a. refl; in-order = in-turn _ _ refl; exact = λ κs a r e p. (_, exactly _ _ _ p) }
 
 pub test-for-refuses : Refuses test-for.Post (λ κs. toldMade)
     (λ κs a. testRows (a .0) (now (a .1 .0)) (a .1 .1 .0))
     (3 ∷ 5 ∷ 7 ∷ 9 ∷ [])
 unfolding testRows faultRows circuitSetRows circuitRows
-test-for-refuses = record { its-numbers = λ κs a. refl; in-order = refl; exact = λ κs a r e p. (_, exactly _ _ _ p) }
+test-for-refuses = record { its-numbers = λ κs a. refl; in-order = in-turn _ _ refl; exact = λ κs a r e p. (_, exactly _ _ _ p) }
 
 -- judge
 pub judge-refuses : Refuses judge.Post (λ κs. toldVerdict)
     (λ κs a. judgeRows (a .0) (now (a .1 .0)) (now (a .1 .1 .0)) (a .1 .1 .1 .0))
     (3 ∷ 5 ∷ 7 ∷ 8 ∷ 9 ∷ [])
 unfolding judgeRows setRows classRows circuitSetRows verdict
-judge-refuses = record { its-numbers = λ κs a. refl; in-order = refl; exact = λ κs a r e p. (_, exactly _ _ _ p) }
+judge-refuses = record { its-numbers = λ κs a. refl; in-order = in-turn _ _ refl; exact = λ κs a r e p. (_, exactly _ _ _ p) }
 
 pub coverage-with-vector-refuses : Refuses coverage-with-vector.Post (λ κs r. toldBeside (r .refusal))
     (λ κs a. circuitRows (a .1 .0) (now (a .1 .1 .0)) ++ vectorRows (a .1 .0) (a .1 .1 .1 .0))
     (3 ∷ 5 ∷ 7 ∷ 8 ∷ [])
 unfolding circuitSetRows circuitRows vectorRows
-coverage-with-vector-refuses = record { its-numbers = λ κs a. refl; in-order = refl; exact = λ κs a r e p. (_, exactly _ _ _ (p .0)) }
+coverage-with-vector-refuses = record { its-numbers = λ κs a. refl; in-order = in-turn _ _ refl; exact = λ κs a r e p. (_, exactly _ _ _ (p .0)) }
 
 -- its refusal hands the same coverage back
 pub coverage-with-vector-leaves : Leaves coverage-with-vector-refuses (λ κs a. a .0) (λ κs r e. r .coverage)
@@ -103,20 +103,20 @@ pub coverage-count-refuses : Refuses coverage-count.Post (λ κs. toldVerdict)
     (λ κs a. countRows (a .1 .0) (now (a .1 .1 .0)) (a .1 .1 .1 .0))
     (3 ∷ 5 ∷ 7 ∷ 9 ∷ [])
 unfolding countRows classRows circuitSetRows circuitRows verdict
-coverage-count-refuses = record { its-numbers = λ κs a. refl; in-order = refl; exact = λ κs a r e p. (_, exactly _ _ _ p) }
+coverage-count-refuses = record { its-numbers = λ κs a. refl; in-order = in-turn _ _ refl; exact = λ κs a r e p. (_, exactly _ _ _ p) }
 
 pub cover-refuses : Refuses cover.Post (λ κs. toldVerdict)
     (λ κs a. judgeRows (a .0) (now (a .1 .0)) (now (a .1 .1 .0)) (a .1 .1 .1 .0))
     (3 ∷ 5 ∷ 7 ∷ 8 ∷ 9 ∷ [])
 unfolding judgeRows setRows classRows circuitSetRows verdict
-cover-refuses = record { its-numbers = λ κs a. refl; in-order = refl; exact = λ κs a r e p. (_, exactly _ _ _ p) }
+cover-refuses = record { its-numbers = λ κs a. refl; in-order = in-turn _ _ refl; exact = λ κs a r e p. (_, exactly _ _ _ p) }
 
 -- dropping
 pub drop-refuses : Refuses drop.Post (λ κs. toldDropped)
     (λ κs a. dropRows (a .0) (now (a .1 .0)) (a .1 .1 .0) (now (a .1 .1 .1 .0)))
     (3 ∷ 5 ∷ 7 ∷ 8 ∷ 9 ∷ [])
 unfolding dropRows recordRows circuitSetRows circuitRows vectorRows
-drop-refuses = record { its-numbers = λ κs a. refl; in-order = refl; exact = λ κs a r e p. (_, exactly _ _ _ (p .0)) }
+drop-refuses = record { its-numbers = λ κs a. refl; in-order = in-turn _ _ refl; exact = λ κs a r e p. (_, exactly _ _ _ (p .0)) }
 
 pub drop-leaves : Leaves drop-refuses (λ κs a. now (a .1 .1 .1 .0)) (λ κs r e. now (e .1 .1 .1 .0))
 drop-leaves = refusal-leaves _ (λ κs a r e p. p .1)
@@ -125,7 +125,7 @@ pub drop-records-refuses : Refuses drop-records.Post (λ κs. toldDropped)
     (λ κs a. dropRecordsRows (a .0) (now (a .1 .0)) (a .1 .1 .0) (now (a .1 .1 .1 .0)))
     (3 ∷ 5 ∷ 7 ∷ 8 ∷ 9 ∷ [])
 unfolding dropRecordsRows recordRows circuitSetRows circuitRows vectorRows
-drop-records-refuses = record { its-numbers = λ κs a. refl; in-order = refl; exact = λ κs a r e p. (_, exactly _ _ _ (p .0)) }
+drop-records-refuses = record { its-numbers = λ κs a. refl; in-order = in-turn _ _ refl; exact = λ κs a r e p. (_, exactly _ _ _ (p .0)) }
 
 pub drop-records-leaves : Leaves drop-records-refuses (λ κs a. now (a .1 .1 .1 .0)) (λ κs r e. now (e .1 .1 .1 .0))
 drop-records-leaves = refusal-leaves _ (λ κs a r e p. p .1)
@@ -135,7 +135,7 @@ pub backward-set-refuses : Refuses backward-set.Post (λ κs. testsets.toldMade)
     (λ κs a. backwardRows (a .0) (now (a .1 .0)) (length (now (a .1 .1 .0))))
     (3 ∷ 5 ∷ 7 ∷ 10 ∷ [])
 unfolding backwardRows circuitSetRows circuitRows
-backward-set-refuses = record { its-numbers = λ κs a. refl; in-order = refl; exact = λ κs a r e p. (_, exactly _ _ _ (p .0)) }
+backward-set-refuses = record { its-numbers = λ κs a. refl; in-order = in-turn _ _ refl; exact = λ κs a r e p. (_, exactly _ _ _ (p .0)) }
 
 pub backward-set-leaves : Leaves backward-set-refuses (λ κs a. now (a .1 .1 .0)) (λ κs r e. now (e .1 .1 .0))
 backward-set-leaves = refusal-leaves _ (λ κs a r e p. p .1)
@@ -144,7 +144,7 @@ pub compact-set-refuses : Refuses compact-set.Post (λ κs. testsets.toldMade)
     (λ κs a. compactRows (a .0) (now (a .1 .0)) (length (now (a .1 .1 .0))))
     (3 ∷ 5 ∷ 7 ∷ 11 ∷ 10 ∷ [])
 unfolding compactRows circuitSetRows circuitRows
-compact-set-refuses = record { its-numbers = λ κs a. refl; in-order = refl; exact = λ κs a r e p. (_, exactly _ _ _ (p .0)) }
+compact-set-refuses = record { its-numbers = λ κs a. refl; in-order = in-turn _ _ refl; exact = λ κs a r e p. (_, exactly _ _ _ (p .0)) }
 
 pub compact-set-leaves : Leaves compact-set-refuses (λ κs a. now (a .1 .1 .0)) (λ κs r e. now (e .1 .1 .0))
 compact-set-leaves = refusal-leaves _ (λ κs a r e p. p .1)
@@ -154,7 +154,7 @@ pub read-job-refuses : Refuses read-job.Post (λ κs. toldRead)
     (λ κs a. readRows (now (a .0)) (length (now (a .1 .0))) (length (now (a .1 .1 .0))))
     (1 ∷ 2 ∷ 3 ∷ 4 ∷ 5 ∷ 6 ∷ 7 ∷ 8 ∷ 10 ∷ [])
 unfolding readRows headerRows contentRows
-read-job-refuses = record { its-numbers = λ κs a. refl; in-order = refl; exact = λ κs a r e p. (_, exactly _ _ _ (p .0)) }
+read-job-refuses = record { its-numbers = λ κs a. refl; in-order = in-turn _ _ refl; exact = λ κs a r e p. (_, exactly _ _ _ (p .0)) }
 
 pub read-job-leaves-gates : Leaves read-job-refuses (λ κs a. now (a .1 .0)) (λ κs r e. now (e .1 .0))
 read-job-leaves-gates = refusal-leaves _ (λ κs a r e p. p .1 .0)
@@ -166,7 +166,7 @@ pub write-job-refuses : Refuses write-job.Post (λ κs. toldWritten)
     (λ κs a. writeRows (a .0) (a .1 .0) (now (a .1 .1 .0)) (now (a .1 .1 .1 .0)) (length (now (a .1 .1 .1 .1 .0))))
     (3 ∷ 4 ∷ 5 ∷ 7 ∷ 8 ∷ 10 ∷ [])
 unfolding writeRows contentRows
-write-job-refuses = record { its-numbers = λ κs a. refl; in-order = refl; exact = λ κs a r e p. (_, exactly _ _ _ (p .0)) }
+write-job-refuses = record { its-numbers = λ κs a. refl; in-order = in-turn _ _ refl; exact = λ κs a r e p. (_, exactly _ _ _ (p .0)) }
 
 pub write-job-leaves : Leaves write-job-refuses (λ κs a. now (a .1 .1 .1 .1 .0)) (λ κs r e. now (e .1 .1 .1 .1 .0))
 write-job-leaves = refusal-leaves _ (λ κs a r e p. p .1)
@@ -176,7 +176,7 @@ pub report-refuses : Refuses report.Post (λ κs. toldReported)
     (λ κs a. reportRows (now (a .0)) (length (now (a .1 .0))))
     (10 ∷ [])
 unfolding reportRows
-report-refuses = record { its-numbers = λ κs a. refl; in-order = refl; exact = λ κs a r e p. (_, exactly _ _ _ (p .0)) }
+report-refuses = record { its-numbers = λ κs a. refl; in-order = in-turn _ _ refl; exact = λ κs a r e p. (_, exactly _ _ _ (p .0)) }
 
 pub report-leaves : Leaves report-refuses (λ κs a. now (a .1 .0)) (λ κs r e. now (e .1 .0))
 report-leaves = refusal-leaves _ (λ κs a r e p. p .1)

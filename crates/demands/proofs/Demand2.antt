@@ -1,168 +1,185 @@
--- Demand 2: runs undo each other at every level; caught means that the final output differs, and each class has its condition
--- for that; complete means that every fault of the class is caught by some vector, and a fault that is shown is the first that none catches.
-use Prim.Native.Nat.{ℕ, _+_, _-_, _≤_}
-use mathlib.Core.Path.{_≡_, sym, ap₂, subst, _∙_}
-use mathlib.Core.Logic.{_↔_, _≢_}
-use mathlib.Core.Bool.{true, false}
-use mathlib.Core.List.{List, [], _∷_, _++_, List·Memᴰ}
+-- Demand 2, over the contracts: runs undo each other at every level; caught means exactly that the output of the faulty circuit differs, and each
+-- class has its condition for that; complete means exactly that all faults of the class are caught, and otherwise the first uncaught fault and true
+-- counts are shown. What each call answers stands in `Runs`, `Catching`, `Testing`, `Judging`, `Covering` and `Dropping`, in the words of `Machine` and
+-- `FaultLists`; here stand the sentences of the demand that follow.
+use Prim.Native.Nat.{ℕ, suc, _-_, _/_, _%_, _^_, _≤_}
+use mathlib.Core.Path.{_≡_, refl, ap, subst}
+use mathlib.Core.Logic.{_↔_}
+use mathlib.Core.List.{List, [], _∷_}
 use native.Mathlib.Omega.{arith}
 use lib.ListN.{length}
-use Rattle.basics.specs.Lists.{All}
-use Rattle.basics.proofs.Tests.{not-eqb-iff}
-use Rattle.refusals.specs.Tables.{firstOf}
-use Rattle.refusals.specs.Tables.Told.{answered}
-use Rattle.refusals.specs.Checks.{fine}
-use Rattle.refusals.proofs.Tables.{fine-all}
+use denote.Ref.{now}
+use Rattle.basics.proofs.Tests.{by-equal}
 use Rattle.words.specs.Word.{bit}
-use Rattle.circuit.specs.Gates.{gatesOf, gateAt}
-use Rattle.circuit.specs.Controls.{isControl}
-use Rattle.circuit.specs.Runs.{run, forward, backward}
-use Rattle.circuit.specs.Sound.{AllOk, Sound}
+use Rattle.words.proofs.Bits.{word-ext-all}
+use Rattle.refusals.specs.Tables.{Told}
+use Rattle.refusals.specs.Tables.Told.{answered}
+use Rattle.circuit.specs.Answers.{told}
 use Rattle.circuit.specs.declared.Gate.{Gate}
-use Rattle.circuit.proofs.RunLaws.{backward-forward, forward-backward}
-use Rattle.simulator.specs.Faulty.{stuckRun, faulty, caught}
-use Rattle.faults.specs.Rules.{isFault}
-use Rattle.simulator.specs.Faulty.{caughtTogether}
-use Rattle.simulator.specs.Tests.{testFor}
+use Rattle.circuit.proofs.forward.Reads as forward
+use Rattle.circuit.proofs.backward.Reads as backward
+use Rattle.simulator.specs.Answers.{toldCaught}
 use Rattle.faults.specs.declared.Fault.{Fault}
-use Rattle.simulator.proofs.FaultyLaws.{caught-iff}
-use Rattle.simulator.proofs.CatchLaws.{stuck-differs, missing-gate-differs, missing-control-differs, extra-control-differs}
-use Rattle.faults.proofs.ClassLaws.{stuck-fault, names-gate, is-missing, is-extra}
-use Rattle.simulator.proofs.TestLaws.{test-catches}
-use Rattle.faults.specs.Classes.{classFaults}
-use Rattle.judge.specs.Judging.{caughtBySome, caughtOf, left, verdict}
-use Rattle.judge.specs.Rules.{judgeRows}
+use Rattle.simulator.proofs.catches.Reads as catches
 use Rattle.judge.specs.Answers.{toldVerdict}
-use Rattle.judge.specs.Coverages.{emptyCoverage, withAll, isMarked}
-use Rattle.judge.specs.declared.Verdict.{Verdict}
-use Rattle.judge.specs.declared.Verdict.the-variants.{Complete, Left}
-use Rattle.judge.proofs.AnswerLaws.{told-verdict-one}
-use Rattle.faults.proofs.ClassLists.{in-class-list}
-use Rattle.judge.proofs.Theorems.{coverage-is-judge, complete-means, shown-means, numbers-true}
-use Rattle.demands.proofs.FirstBroken.{answer-is}
+use Rattle.judge.proofs.judge.Reads as judge
+use Rattle.answers.specs.declared.Run.{Run}
+use Rattle.nufsadeem.proofs.nuf_forward.Reads as c-forward
+use Rattle.nufsadeem.proofs.nuf_backward.Reads as c-backward
+use Rattle.nufsadeem.proofs.nuf_catches.Reads as c-catches
+use Rattle.nufsadeem.proofs.judging.nuf_judge.Reads as c-judge
+use Rattle.demands.proofs.Machine.{Control, Makes, gate, Circuit, Caught}
+use Rattle.demands.proofs.Answering.{Answers, Ended}
+use Rattle.demands.proofs.InC.{toldBy, tells-answer, told-in-c, AnswersInC}
+use Rattle.demands.proofs.Runs.{RunsForward, forward-means, level-none, level-more, back-again, forth-again}
+use Rattle.demands.proofs.Catching.{TellsCaught, catches-means, catches-in-c}
+use Rattle.demands.proofs.Conditions.{Conditions, conditions, told-caught}
+use Rattle.demands.proofs.Judging.{Judges, judge-means, judge-in-c}
+use Rattle.demands.proofs.Completeness.{EveryCaught, FirstUncaught, Counted, complete-means, first-means, counts-mean}
+use Rattle.demands.proofs.Demand1OfC as refusing-in-c
 
--- ---- runs
+-- ---- a gate, over bits
 
--- each undoes the other, at every level and in both directions
-pub runs-undo-each-other : (n : ℕ) (gs : List Gate) → AllOk n gs → (level state : ℕ)
-    → (backward gs level (forward gs level state) ≡ state) × (forward gs level (backward gs level state) ≡ state)
-runs-undo-each-other n gs ok level state = (backward-forward n gs ok level state, forward-backward n gs ok level state)
+-- bit j is the value of line j
+pub bit-is : (s j : ℕ) → bit s j ≡ s / 2 ^ j % 2
+unfolding bit
+bit-is s j = refl
 
--- ---- caught
+module _ (g : Gate) (s t : ℕ) (made : Makes g s t) where
+  -- where all controls are 1 the target is inverted
+  pub controls-1-invert : ((c : ℕ) → Control g c → bit s c ≡ 1) → bit t (g .target) ≡ 1 - bit s (g .target)
+  controls-1-invert all = made .inverts all
 
--- always that the final output differs from the good one
-pub caught-means : (gs : List Gate) (f : Fault) (x : ℕ) → (caught gs f x ≡ true) ↔ (faulty gs f x ≢ run gs x)
-caught-means = caught-iff
+  -- where some control is 0 nothing changes
+  pub control-0-rests : (c : ℕ) → Control g c → bit s c ≡ 0 → t ≡ s
+  control-0-rests c o z = word-ext-all t s (λ j. by-equal (g .target) j
+      (λ e. subst (λ k. bit t k ≡ bit s k) e (made .rests (λ all. let one = all c o in omega arith)))
+      (λ d. made .others j d))
 
--- of a multiple fault too: only the whole faulty run decides
-pub caught-together-means : (gs : List Gate) (fs : List Fault) (x : ℕ) → (caughtTogether gs fs x ≡ true) ↔ (stuckRun fs 0 gs x ≢ run gs x)
-unfolding caughtTogether
-caught-together-means gs fs x = not-eqb-iff (stuckRun fs 0 gs x) (run gs x)
+  -- every other line stays
+  pub other-lines-stay : (j : ℕ) → (g .target ≡ j → ⊥) → bit t j ≡ bit s j
+  other-lines-stay j d = made .others j d
 
--- the conditions of the four classes, for a fault that a sound circuit has
-module _ (n : ℕ) (words : List ℕ) (ok : Sound n words) (f : Fault) (is : isFault n (gatesOf words) f ≡ true) (x : ℕ) where
-  abbrev gs : List Gate
-  gs = gatesOf words
+  -- a gate with no controls always inverts
+  pub no-control-inverts : ((c : ℕ) → Control g c → ⊥) → bit t (g .target) ≡ 1 - bit s (g .target)
+  no-control-inverts none = made .inverts (λ c o. absurd (none c o))
 
-  -- the state that gate i reads, and gate i
-  abbrev read : ℕ
-  read = forward gs (f .place - 1) x
+-- ---- levels, by runs of one circuit and input
 
-  abbrev gate : Gate
-  gate = gateAt gs (f .place)
+pub level-0-is-input : (call : Ended forward.Post) → call .inputs .1 .1 .0 ≡ 0 → (s : ℕ) → told (call .result) ≡ answered (s ∷ [])
+    → s ≡ call .inputs .1 .1 .1 .0
+level-0-is-input call zero s t =
+    level-none (subst (λ i. RunsForward (call .inputs .0) (now (call .inputs .1 .0)) i (call .inputs .1 .1 .1 .0) (s ∷ [])) zero
+    (forward-means .as-said call (s ∷ []) t))
 
-  -- stuck-at: exactly when the good value there is not v
-  pub stuck-at-caught : f .class ≡ 1 → (faulty gs f x ≢ run gs x) ↔ (bit (forward gs (f .place) x) (f .line) ≢ f .value)
-  stuck-at-caught e = stuck-differs n gs (ok .gates-ok) f x (stuck-fault n words f ok is e)
+-- gate i makes level i of level i - 1
+pub gate-makes-level : (low high : Ended forward.Post)
+    → (low .inputs .0 ≡ high .inputs .0) × (now (low .inputs .1 .0) ≡ now (high .inputs .1 .0))
+    × (suc (low .inputs .1 .1 .0) ≡ high .inputs .1 .1 .0) × (low .inputs .1 .1 .1 .0 ≡ high .inputs .1 .1 .1 .0)
+    → (s t : ℕ) → told (low .result) ≡ answered (s ∷ []) → told (high .result) ≡ answered (t ∷ [])
+    → (gs : List Gate) × Circuit (low .inputs .0) (now (low .inputs .1 .0)) gs × (suc (low .inputs .1 .1 .0) ≤ length gs)
+    × Makes (gate gs (suc (low .inputs .1 .1 .0))) s t
+gate-makes-level low high same s t e f =
+    level-more (forward-means .as-said low (s ∷ []) e)
+    (coe 1 0 (i. RunsForward (same .0 i) (same .1 i) (same .2 i) (same .3 i) (t ∷ [])) (forward-means .as-said high (t ∷ []) f))
 
-  -- missing gate: exactly when all its controls are 1
-  pub missing-gate-caught : f .class ≡ 2 → (faulty gs f x ≢ run gs x) ↔ ((j : ℕ) → isControl gate j ≡ true → bit read j ≡ 1)
-  missing-gate-caught e =
-      let w = names-gate n words f ok is (λ q. omega arith) in
-      missing-gate-differs n gs (ok .gates-ok) f x (w .0) (w .1) e
+-- ---- runs undo each other: of two runs of one circuit to and from one level, the second is given the state that the first tells, and tells what
+-- the first was given
 
-  -- missing control: exactly when it is 0 and all other controls are 1
-  pub missing-control-caught : f .class ≡ 3
-      → (faulty gs f x ≢ run gs x) ↔ ((bit read (f .line) ≡ 0) × ((j : ℕ) → f .line ≢ j → isControl gate j ≡ true → bit read j ≡ 1))
-  missing-control-caught e =
-      let w = names-gate n words f ok is (λ q. omega arith) in
-      missing-control-differs n gs (ok .gates-ok) f x (w .0) (w .1) e (is-missing n words f ok is e)
+pub backward-after-forward : (first : Ended forward.Post) (second : Ended backward.Post)
+    → (first .inputs .0 ≡ second .inputs .0) × (now (first .inputs .1 .0) ≡ now (second .inputs .1 .0))
+    × (first .inputs .1 .1 .0 ≡ second .inputs .1 .1 .0)
+    → told (first .result) ≡ answered (second .inputs .1 .1 .1 .0 ∷ []) → told (second .result) ≡ answered (first .inputs .1 .1 .1 .0 ∷ [])
+backward-after-forward first second same state =
+    let q = second .promised in
+    back-again (first .inputs .0) (now (first .inputs .1 .0)) (first .inputs .1 .1 .0) (first .inputs .1 .1 .1 .0) (second .inputs .1 .1 .1 .0)
+    (told (first .result)) (told (second .result)) (first .promised) state cc
 
-  -- extra control: exactly when it is 0 and all controls are 1
-  pub extra-control-caught : f .class ≡ 4
-      → (faulty gs f x ≢ run gs x) ↔ ((bit read (f .line) ≡ 0) × ((j : ℕ) → isControl gate j ≡ true → bit read j ≡ 1))
-  extra-control-caught e =
-      let w = names-gate n words f ok is (λ q. omega arith) in
-      extra-control-differs n gs (ok .gates-ok) f x (w .0) (w .1) e (is-extra n words f ok is e)
+pub forward-after-backward : (first : Ended backward.Post) (second : Ended forward.Post)
+    → (first .inputs .0 ≡ second .inputs .0) × (now (first .inputs .1 .0) ≡ now (second .inputs .1 .0))
+    × (first .inputs .1 .1 .0 ≡ second .inputs .1 .1 .0)
+    → told (first .result) ≡ answered (second .inputs .1 .1 .1 .0 ∷ []) → told (second .result) ≡ answered (first .inputs .1 .1 .1 .0 ∷ [])
+forward-after-backward first second same state =
+    let q = second .promised in
+    forth-again (first .inputs .0) (now (first .inputs .1 .0)) (first .inputs .1 .1 .0) (first .inputs .1 .1 .1 .0) (second .inputs .1 .1 .1 .0)
+    (told (first .result)) (told (second .result)) (first .promised) state cc
 
--- the test for a fault catches it
-pub test-for-catches : (n : ℕ) (words : List ℕ) (f : Fault) → Sound n words → isFault n (gatesOf words) f ≡ true
-    → caught (gatesOf words) f (testFor n (gatesOf words) f) ≡ true
-test-for-catches = test-catches
+-- the same in C: a number that is 0, and the state
+abbrev structTells : Run → Told
+structTells r = toldBy (r .number) (r .place) (r .state ∷ [])
 
--- ---- the verdict on a set xs for a class, where the judge is held to its promise
+pub backward-after-forward-in-c : (first : Ended c-forward.Post) (second : Ended c-backward.Post)
+    → (first .inputs .0 ≡ second .inputs .0) × (now (first .inputs .1 .0) ≡ now (second .inputs .1 .0))
+    × (first .inputs .1 .1 .0 ≡ second .inputs .1 .1 .0)
+    → first .result .number ≡ 0 → first .result .state ≡ second .inputs .1 .1 .1 .0
+    → (second .result .number ≡ 0) × (second .result .state ≡ first .inputs .1 .1 .1 .0)
+backward-after-forward-in-c first second same none state =
+    let p = told-in-c 1 refusing-in-c.forward-refuses first _ (first .promised) in
+    let q = told-in-c 1 refusing-in-c.backward-refuses second _ (second .promised) in
+    let given = tells-answer _ (first .result .place) _ (second .inputs .1 .1 .1 .0 ∷ []) .1 (none, ap (λ s. s ∷ []) state) in
+    let w = tells-answer _ _ (second .result .state ∷ []) (first .inputs .1 .1 .1 .0 ∷ []) .0
+    (back-again (first .inputs .0) (now (first .inputs .1 .0)) (first .inputs .1 .1 .0) (first .inputs .1 .1 .1 .0) (second .inputs .1 .1 .1 .0)
+    (structTells (first .result)) (structTells (second .result)) p given cc) in
+    (w .0, let e = w .1 in cc)
 
-module _ (n : ℕ) (words xs : List ℕ) (class : ℕ) where
-  abbrev circuit : List Gate
-  circuit = gatesOf words
+pub forward-after-backward-in-c : (first : Ended c-backward.Post) (second : Ended c-forward.Post)
+    → (first .inputs .0 ≡ second .inputs .0) × (now (first .inputs .1 .0) ≡ now (second .inputs .1 .0))
+    × (first .inputs .1 .1 .0 ≡ second .inputs .1 .1 .0)
+    → first .result .number ≡ 0 → first .result .state ≡ second .inputs .1 .1 .1 .0
+    → (second .result .number ≡ 0) × (second .result .state ≡ first .inputs .1 .1 .1 .0)
+forward-after-backward-in-c first second same none state =
+    let p = told-in-c 1 refusing-in-c.backward-refuses first _ (first .promised) in
+    let q = told-in-c 1 refusing-in-c.forward-refuses second _ (second .promised) in
+    let given = tells-answer _ (first .result .place) _ (second .inputs .1 .1 .1 .0 ∷ []) .1 (none, ap (λ s. s ∷ []) state) in
+    let w = tells-answer _ _ (second .result .state ∷ []) (first .inputs .1 .1 .1 .0 ∷ []) .0
+    (forth-again (first .inputs .0) (now (first .inputs .1 .0)) (first .inputs .1 .1 .0) (first .inputs .1 .1 .1 .0) (second .inputs .1 .1 .1 .0)
+    (structTells (first .result)) (structTells (second .result)) p given cc) in
+    (w .0, let e = w .1 in cc)
 
-  abbrev faults : List Fault
-  faults = classFaults n circuit class
+-- ---- caught: 1 is told exactly if the output of the circuit with the fault in it differs, and exactly if the condition of the fault's class holds
 
-  -- the counts are true: how many of the class some vector catches, and how many there are
-  abbrev TrueCounts : ℕ → ℕ → Type 0
-  TrueCounts number total = (number ≡ length (caughtOf circuit xs faults)) × (total ≡ length faults)
+pub record CaughtExactly (n : ℕ) (words : List ℕ) (x : ℕ) (f : Fault) (values : List ℕ) : Type 0 where
+  pub gs : List Gate
+  pub circuit : Circuit n words gs
+  pub by-output : (values ≡ 1 ∷ []) ↔ Caught gs f x
+  pub by-condition : Conditions gs f x values
 
-  -- where it says complete, every fault of the class is caught by some vector
-  pub says-complete : (number total : ℕ)
-      → toldVerdict (Complete number total) ≡ firstOf (judgeRows n words xs class) (verdict (caughtBySome circuit xs) faults)
-      → TrueCounts number total × All (λ f. (x : ℕ) × List·Memᴰ x xs × (caught circuit f x ≡ true)) faults
-  unfolding verdict caughtOf
-  says-complete number total promise =
-      let told = answer-is (judgeRows n words xs class) _ _ promise in
-      let caught-number : number ≡ length (caughtOf circuit xs faults) = cc in
-      let all-number : total ≡ length faults = cc in
-      let same = ap₂ (λ c t. answered (c ∷ t ∷ 1 ∷ 0 ∷ 0 ∷ 0 ∷ 0 ∷ [])) caught-number all-number in
-      ((caught-number, all-number), complete-means circuit xs faults .0 (sym told ∙ same))
+caught-exactly : {n : ℕ} {words : List ℕ} {x : ℕ} {f : Fault} {values : List ℕ} → TellsCaught n words x f values → CaughtExactly n words x f values
+caught-exactly w = record { gs = w .gs; circuit = w .circuit; by-output = told-caught w; by-condition = conditions w }
 
-  -- and where no rule is broken and every fault of the class is caught by some vector, it does
-  pub caught-all-says-complete : (r : Verdict) → fine ≡ firstOf (judgeRows n words xs class) fine
-      → toldVerdict r ≡ firstOf (judgeRows n words xs class) (verdict (caughtBySome circuit xs) faults)
-      → All (λ f. (x : ℕ) × List·Memᴰ x xs × (caught circuit f x ≡ true)) faults
-      → r ≡ Complete (length (caughtOf circuit xs faults)) (length faults)
-  caught-all-says-complete r passes promise all =
-      told-verdict-one r (Complete (length (caughtOf circuit xs faults)) (length faults))
-      (promise ∙ sym (fine-all (judgeRows n words xs class) _ passes) ∙ complete-means circuit xs faults .1 all)
+pub catches-exactly : Answers catches.Post (λ κs. toldCaught)
+    (λ κs a values e. CaughtExactly (a .0) (now (a .1 .0)) (a .1 .1 .0) (a .1 .1 .1 .0) values)
+catches-exactly = record { as-said = λ call values t. caught-exactly (catches-means .as-said call values t) }
 
-  -- otherwise the fault shown is of the class, no vector catches it, and every earlier one is caught
-  abbrev FirstUncaught : Fault → Type 0
-  FirstUncaught f = List·Memᴰ f faults × (caughtBySome circuit xs f ≡ false)
-      × ((before : List Fault) × (later : List Fault) × (faults ≡ before ++ (f ∷ later)) × All (λ h. caughtBySome circuit xs h ≡ true) before)
+pub catches-exactly-in-c : AnswersInC c-catches.Post (λ κs r. r .number) (λ κs r. r .caught ∷ [])
+    (λ κs a values e. CaughtExactly (a .0) (now (a .1 .0)) (a .1 .1 .0) (a .1 .1 .1 .0) values)
+catches-exactly-in-c = record { as-said = λ call z. caught-exactly (catches-in-c .as-said call z) }
 
-  pub says-left : (number total : ℕ) (f : Fault)
-      → toldVerdict (Left number total f) ≡ firstOf (judgeRows n words xs class) (verdict (caughtBySome circuit xs) faults)
-      → TrueCounts number total × FirstUncaught f
-  unfolding verdict caughtOf
-  says-left number total f promise =
-      let told = answer-is (judgeRows n words xs class) _ _ promise in
-      let caught-number : number ≡ length (caughtOf circuit xs faults) = cc in
-      let all-number : total ≡ length faults = cc in
-      let same = ap₂ (λ c t. answered (c ∷ t ∷ 0 ∷ f .class ∷ f .place ∷ f .line ∷ f .value ∷ [])) caught-number all-number in
-      let w = shown-means circuit xs faults (f .class) (f .place) (f .line) (f .value) (sym told ∙ same) in
-      let s = w .0 in
-      let is : s .fault ≡ f = λ i. record { class = s .class-is i; place = s .place-is i; line = s .line-is i; value = s .value-is i } in
-      ((caught-number, all-number), subst FirstUncaught {x = s .fault} is (w .1, w .2, w .3))
+-- ---- complete: exactly that every fault of the class is caught by some vector; otherwise the first that none catches is shown
 
-  -- the number caught and the number left are all there are
-  pub none-uncounted : length (caughtOf circuit xs faults) + length (left circuit xs faults) ≡ length faults
-  none-uncounted = numbers-true circuit xs faults
+pub record CompleteExactly (n : ℕ) (words xs : List ℕ) (class : ℕ) (values : List ℕ) : Type 0 where
+  pub gs : List Gate
+  pub circuit : Circuit n words gs
+  pub by-all : (number total flag : ℕ) (rest : List ℕ) → values ≡ number ∷ total ∷ flag ∷ rest → (flag ≡ 1) ↔ EveryCaught n gs class xs
+  pub by-first : (number total : ℕ) (f : Fault) → values ≡ number ∷ total ∷ 0 ∷ f .class ∷ f .place ∷ f .line ∷ f .value ∷ []
+      → FirstUncaught n gs class xs f
+  -- the counts are true
+  pub by-number : (number total : ℕ) (rest : List ℕ) → values ≡ number ∷ total ∷ rest → Counted n gs class xs number total
 
--- a class has every fault that the circuit has of it
-pub class-has-all : (n : ℕ) (gs : List Gate) (f : Fault) → AllOk n gs → isFault n gs f ≡ true → List·Memᴰ f (classFaults n gs (f .class))
-class-has-all = in-class-list
+complete-exactly : {n : ℕ} {words xs : List ℕ} {class : ℕ} {values : List ℕ} → Judges n words xs class values → CompleteExactly n words xs class values
+complete-exactly w = record {
+  gs = w .gs;
+  circuit = w .circuit;
+  by-all = complete-means w;
+  by-first = first-means w;
+  by-number = counts-mean w;
+}
 
--- a coverage that is begun empty and given a set's vectors in turn has the verdict of the judge of that set
-pub coverage-agrees : (n : ℕ) (words xs : List ℕ) (class : ℕ) → Sound n words → 1 ≤ class → class ≤ 4
-    → verdict (isMarked (withAll emptyCoverage n (gatesOf words) xs)) (classFaults n (gatesOf words) class)
-    ≡ verdict (caughtBySome (gatesOf words) xs) (classFaults n (gatesOf words) class)
-coverage-agrees = coverage-is-judge
+pub judge-exactly : Answers judge.Post (λ κs. toldVerdict)
+    (λ κs a values e. CompleteExactly (a .0) (now (a .1 .0)) (now (a .1 .1 .0)) (a .1 .1 .1 .0) values)
+judge-exactly = record { as-said = λ call values t. complete-exactly (judge-means .as-said call values t) }
+
+pub judge-exactly-in-c : AnswersInC c-judge.Post (λ κs r. r .number)
+    (λ κs r. r .caught ∷ r .total ∷ r .complete ∷ r .first .class ∷ r .first .place ∷ r .first .line ∷ r .first .value ∷ [])
+    (λ κs a values e. CompleteExactly (a .0) (now (a .1 .0)) (now (a .1 .1 .0)) (a .1 .1 .1 .0) values)
+judge-exactly-in-c = record { as-said = λ call z. complete-exactly (judge-in-c .as-said call z) }

@@ -1,47 +1,79 @@
--- Demand 3: for each valid circuit of at most 12 lines and room for the bound, the compact set catches every single stuck-at fault and
--- every multiple one of 1 to 256 entries, with at most 2 + floor(log2 S) vectors, and each pick catches at least half of what is left.
-use Prim.Native.Nat.{ℕ, suc, _*_, _^_, _≤_, _<_}
-use mathlib.Core.Path.{_≡_}
-use mathlib.Core.List.{List, [], _∷_, _++_}
-use lib.ListN.{length, drop}
-use Rattle.basics.specs.Lists.{All}
-use Rattle.refusals.specs.Tables.{firstOf, after}
+-- Demand 3, over the contracts: for each valid circuit of at most 12 lines and room for the bound, the compact set catches every single stuck-at fault
+-- and every multiple one of 1 to 256 entries, each pick is the input that catches most of what is left, the smallest on a tie, and there are at
+-- most 2 + floor(log2 S) of them.
+use Prim.Native.Nat.{ℕ, suc, _+_, _*_, _^_, _≤_, _<_}
+use mathlib.Core.Path.{_≡_, sym, _∙_}
+use mathlib.Core.List.{List, [], _∷_, List·Memᴰ}
+use lib.ListN.{length, take}
+use denote.Ref.{now}
+use Rattle.refusals.specs.Tables.{firstOf}
 use Rattle.refusals.specs.Tables.Told.{answered}
 use Rattle.refusals.specs.Checks.{fine}
-use Rattle.circuit.specs.Gates.{gatesOf}
-use Rattle.circuit.specs.Rules.{circuitRows}
-use Rattle.circuit.specs.Sound.{AllOk}
+use Rattle.refusals.proofs.Tables.{answered-fine}
 use Rattle.circuit.specs.declared.Gate.{Gate}
-use Rattle.faults.specs.Entries.{StuckOk}
+use Rattle.simulator.specs.Rules.{catchRows}
+use Rattle.simulator.specs.Rules.{multipleRows}
+use Rattle.simulator.specs.Answers.{toldCaught}
 use Rattle.faults.specs.declared.Fault.{Fault}
-use Rattle.testsets.specs.Sets.{score, best, bound, compactSet}
-use Rattle.faults.specs.Sites.{siteCount}
-use Rattle.testsets.specs.Rules.{compactRows}
+use Rattle.simulator.proofs.catches.Reads as catches
+use Rattle.simulator.proofs.catches_multiple.Reads as catches-multiple
 use Rattle.testsets.specs.Answers.{toldMade}
-use Rattle.testsets.specs.declared.Made.{Made}
-use Rattle.testsets.specs.declared.Made.the-variants.{Count}
-use Rattle.testsets.proofs.Demand3.{CatchesAll, sites-number, bound-is, pick-catches-half, compact-call}
+use Rattle.testsets.proofs.compact_set.Reads as compact-set
+use Rattle.demands.proofs.Machine.{Circuit}
+use Rattle.demands.proofs.FaultLists.{Class, Picks}
+use Rattle.demands.proofs.SetsCatch.{compact-single, compact-multiple, compact-few, compact-picks}
+use Rattle.demands.proofs.Sets.{MakesCompact, compact-set-means}
+use Rattle.demands.proofs.Answering.{Ended}
 
--- S: n sites at each of the d + 1 levels
-pub sites-are : (n : ℕ) (gs : List Gate) → siteCount n gs ≡ n * suc (length gs)
-sites-are = sites-number
+-- a call is lent the circuit of another: as many lines, and the same words
+abbrev pub Lent : ℕ → List ℕ → ℕ → List ℕ → Type 0
+Lent n words m others = (m ≡ n) × (others ≡ words)
 
--- the bound b is 2 + floor(log2 S): 2 ^ (b - 2) is at most S, and 2 ^ (b - 1) is above it, here times 4 and times 2
-pub bound-is-log : (n : ℕ) (gs : List Gate) → 1 ≤ n → (2 * siteCount n gs < 2 ^ bound n gs) × (2 ^ bound n gs ≤ 4 * siteCount n gs)
-bound-is-log = bound-is
+-- ---- the set as the contract of `compact_set` allows it: k vectors at the front of the room
 
--- every pick catches at least half of the stuck-at faults fs that are left
-pub pick-halves : (n : ℕ) (gs : List Gate) → AllOk n gs → (fs : List Fault) → All (StuckOk n (length gs)) fs
-    → length fs ≤ 2 * score gs fs (best n gs fs)
-pick-halves = pick-catches-half
+module _ (made : Ended compact-set.Post) (k : ℕ) (told : toldMade (made .result) ≡ answered (k ∷ [])) where
+  abbrev n : ℕ
+  n = made .inputs .0
 
--- the call, where it is held to its promise: its answer r and the room at its exit. `CatchesAll` is every single and every multiple fault
-pub compact-set-catches-all : (n : ℕ) (words room : List ℕ) → fine ≡ firstOf (circuitRows n words) fine
-    → n ≤ 12 → bound n (gatesOf words) ≤ length room → (r : Made) (exit : List ℕ)
-    → toldMade r ≡ firstOf (compactRows n words (length room)) (answered (length (compactSet n (gatesOf words)) ∷ []))
-    → exit ≡ after (compactRows n words (length room)) (compactSet n (gatesOf words) ++ drop (length (compactSet n (gatesOf words))) room) room
-    → (r ≡ Count (length (compactSet n (gatesOf words))))
-    × (exit ≡ compactSet n (gatesOf words) ++ drop (length (compactSet n (gatesOf words))) room)
-    × (length (compactSet n (gatesOf words)) ≤ bound n (gatesOf words))
-    × CatchesAll n (gatesOf words) (compactSet n (gatesOf words))
-compact-set-catches-all = compact-call
+  abbrev words : List ℕ
+  words = now (made .inputs .1 .0)
+
+  abbrev written : List ℕ
+  written = take k (now (made .exit .1 .1 .0))
+
+  is : MakesCompact n words (now (made .inputs .1 .1 .0)) (k ∷ []) (now (made .exit .1 .1 .0))
+  is = compact-set-means .as-said made (k ∷ []) told
+
+  -- S is n (d + 1), and there are at most 2 + floor(log2 S) vectors
+  pub at-most : (gs : List Gate) × Circuit n words gs × ((log : ℕ) × (2 ^ log ≤ n * suc (length gs)) × (n * suc (length gs) < 2 ^ suc log) × (k ≤ 2 + log))
+  at-most = (is .gs, is .circuit, (is .log, is .log-below, is .log-above, compact-few _ _ _ _ k is))
+
+  -- each is the smallest input that catches most of the stuck-at faults that are left by those before it, and at least half; and none is left in the end
+  pub by-the-rule : (gs : List Gate) × Circuit n words gs × ((faults : List Fault) × Class n gs 1 faults × Picks n gs faults written)
+  by-the-rule = (is .gs, is .circuit, (is .faults, is .stuck-at, compact-picks _ _ _ _ k is))
+
+  -- every single stuck-at fault that `catches` takes with this circuit, whatever vector it was asked with: with some vector of the set 1 is told
+  pub every-single : (asked : Ended catches.Post) → Lent n words (asked .inputs .0) (now (asked .inputs .1 .0))
+      → asked .inputs .1 .1 .1 .0 .class ≡ 1 → (values : List ℕ) → toldCaught (asked .result) ≡ answered values
+      → (v : ℕ) × List·Memᴰ v written
+      × ((call : Ended catches.Post) → Lent n words (call .inputs .0) (now (call .inputs .1 .0))
+      → call .inputs .1 .1 .0 ≡ v → call .inputs .1 .1 .1 .0 ≡ asked .inputs .1 .1 .1 .0 → toldCaught (call .result) ≡ answered (1 ∷ []))
+  every-single asked same class values taken =
+      let x : ℕ = asked .inputs .1 .1 .0 in
+      let f : Fault = asked .inputs .1 .1 .1 .0 in
+      let passed = answered-fine (catchRows (asked .inputs .0) (now (asked .inputs .1 .0)) x f) values _ (sym taken ∙ asked .promised) .1 in
+      let w = compact-single _ _ _ _ k is x f (coe 0 1 (i. fine ≡ firstOf (catchRows (same .0 i) (same .1 i) x f) fine) passed) class in
+      (w .0, w .1, λ call lent vector fault. w .2 (toldCaught (call .result)) (let p = call .promised in cc))
+
+  -- every multiple one, of 1 to 256 entries, that `catches_multiple` takes
+  pub every-multiple : (asked : Ended catches-multiple.Post) → Lent n words (asked .inputs .0) (now (asked .inputs .1 .0))
+      → (values : List ℕ) → toldCaught (asked .result) ≡ answered values
+      → (v : ℕ) × List·Memᴰ v written
+      × ((call : Ended catches-multiple.Post) → Lent n words (call .inputs .0) (now (call .inputs .1 .0))
+      → call .inputs .1 .1 .0 ≡ v → now (call .inputs .1 .1 .1 .0) ≡ now (asked .inputs .1 .1 .1 .0) → toldCaught (call .result) ≡ answered (1 ∷ []))
+  every-multiple asked same values taken =
+      let x : ℕ = asked .inputs .1 .1 .0 in
+      let list : List ℕ = now (asked .inputs .1 .1 .1 .0) in
+      let passed = answered-fine (multipleRows (asked .inputs .0) (now (asked .inputs .1 .0)) x list) values _ (sym taken ∙ asked .promised) .1 in
+      let w = compact-multiple _ _ _ _ k is x list (coe 0 1 (i. fine ≡ firstOf (multipleRows (same .0 i) (same .1 i) x list) fine) passed) in
+      (w .0, w .1, λ call lent vector entries. w .2 (toldCaught (call .result)) (let p = call .promised in cc))

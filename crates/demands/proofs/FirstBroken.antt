@@ -9,6 +9,7 @@ use Rattle.basics.specs.Lists.{All}
 use Rattle.refusals.specs.Tables.{Row, Told, firstOf, after}
 use Rattle.refusals.specs.Tables.Row.{refuse_at_when_}
 use Rattle.refusals.specs.Tables.Told.{answered, refused}
+use Rattle.refusals.specs.Checks.{fine}
 
 abbrev pub Unbroken : Row → Type 0
 Unbroken (refuse number at place when broken) = broken ≡ false
@@ -88,3 +89,18 @@ exactly told rows values promise = record {
 pub left {ℓ} : {A : Type ℓ} (rows : List Row) (made old exit : A) → exit ≡ after rows made old → (k p : ℕ) → FirstBroken rows k p → exit ≡ old
 left rows made old exit promise k p w =
     promise ∙ ap (λ l. after l made old) (w .table) ∙ left-first (w .before) (w .others) made old k p (w .unbroken-before)
+
+-- some rule is broken first, or none is
+pub by-first {κ} : {C : Type κ} (rows : List Row) → (fine ≡ firstOf rows fine → C)
+    → ((k p : ℕ) → FirstBroken rows k p → firstOf rows fine ≡ refused k p → C) → C
+by-first [] unbroken broken = unbroken refl
+by-first (refuse n at q when true ∷ rows) unbroken broken =
+    broken n q (record { before = []; others = rows; table = refl; unbroken-before = tt }) refl
+by-first (refuse n at q when false ∷ rows) unbroken broken = by-first rows unbroken (λ k p first e. broken k p
+    (record {
+      before = refuse n at q when false ∷ first .before;
+      others = first .others;
+      table = ap (λ l. refuse n at q when false ∷ l) (first .table);
+      unbroken-before = (refl, first .unbroken-before);
+    })
+    e)

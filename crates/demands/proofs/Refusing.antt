@@ -1,38 +1,53 @@
 -- What demand 1 says of a call, by its contract, what its answer tells and its table of rules.
 use Prim.Native.Nat.{ℕ}
-use mathlib.Core.Path.{_≡_}
-use mathlib.Core.Bool.{Bool, true, _&&_}
-use mathlib.Core.List.{List, [], _∷_}
-use lib.Dec.{eqb, ltb}
+use mathlib.Core.Path.{_≡_, sym, subst}
+use mathlib.Core.List.{List, [], _∷_, nil≢cons}
+use lib.Dec.{eqb}
+use borrow.Author.Tests.{eqb-true}
 use Rattle.basics.specs.Choice.{choice}
+use Rattle.basics.proofs.Tests.{by-test}
 use Rattle.refusals.specs.Tables.{Row, Told, after}
 use Rattle.refusals.specs.Tables.Row.{refuse_at_when_}
 use Rattle.refusals.specs.Tables.Told.{refused}
 use Rattle.demands.proofs.FirstBroken.{Exactly, left}
 
--- ---- number order, with 10 last
+-- ---- the order in which rules are asked
+
+-- the numbers of all rules, in that order; a call has some of them
+abbrev pub order : List ℕ
+order = 16 ∷ 17 ∷ 1 ∷ 2 ∷ 15 ∷ 14 ∷ 3 ∷ 4 ∷ 5 ∷ 6 ∷ 7 ∷ 20 ∷ 21 ∷ 8 ∷ 22 ∷ 18 ∷ 19 ∷ 25 ∷ 26 ∷ 23 ∷ 9 ∷ 11 ∷ 12 ∷ 13 ∷ 24 ∷ 10 ∷ []
+
+-- numbers that stand in a list, each once and in its order
+pub data Sublist : List ℕ → List ℕ → Type 0 where
+  none : {asked : List ℕ} → Sublist [] asked
+  takes : {k : ℕ} {ks asked : List ℕ} → Sublist ks asked → Sublist (k ∷ ks) (k ∷ asked)
+  skips : {k : ℕ} {ks asked : List ℕ} → Sublist ks asked → Sublist ks (k ∷ asked)
 
 abbrev pub numbers : List Row → List ℕ
 numbers [] = []
 numbers (refuse number at place when broken ∷ rows) = number ∷ numbers rows
 
--- the turn of a rule: its number, and for 10 one that is above all
-abbrev pub turn : ℕ → ℕ
-turn number = choice (eqb number 10) 1000 number
+-- what is left of some numbers when those that come up are struck off in turn: nothing, where they are a sublist
+abbrev struck : List ℕ → List ℕ → List ℕ
+struck ks [] = ks
+struck [] (m ∷ asked) = []
+struck (k ∷ ks) (m ∷ asked) = struck (choice (eqb k m) ks (k ∷ ks)) asked
 
-abbrev pub inOrder : List ℕ → Bool
-inOrder [] = true
-inOrder (k ∷ []) = true
-inOrder (k ∷ m ∷ rest) = ltb (turn k) (turn m) && inOrder (m ∷ rest)
+pub in-turn : (ks asked : List ℕ) → struck ks asked ≡ [] → Sublist ks asked
+in-turn [] asked e = none
+in-turn (k ∷ ks) [] e = absurd (nil≢cons (sym e))
+in-turn (k ∷ ks) (m ∷ asked) e = by-test (eqb k m)
+    (λ q. subst (λ i. Sublist (i ∷ ks) (m ∷ asked)) (sym (eqb-true k m q)) (takes (in-turn ks asked (rw q at e))))
+    (λ q. skips (in-turn (k ∷ ks) asked (rw q at e)))
 
 -- ---- refusing exactly, and leaving memory
 
 module _ {L : Type 0} {Inputs Result Exit : L → Type 0} (Post : (κs : L) → Inputs κs → Result κs → Exit κs → Type 0)
     (telling : (κs : L) → Result κs → Told) (rows : (κs : L) → Inputs κs → List Row) where
   pub record Refuses (ks : List ℕ) : Type 0 where
-    -- its rules have these numbers, which are in order
+    -- its rules have these numbers, which are in the order of asking
     pub its-numbers : (κs : L) (a : Inputs κs) → numbers (rows κs a) ≡ ks
-    pub in-order : inOrder ks ≡ true
+    pub in-order : Sublist ks order
     -- it refuses, and answers, exactly as they say
     pub exact : (κs : L) (a : Inputs κs) (r : Result κs) (e : Exit κs) → Post κs a r e
         → (values : List ℕ) × Exactly (telling κs r) (rows κs a) values

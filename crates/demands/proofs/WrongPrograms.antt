@@ -1,11 +1,12 @@
--- The seven wrong programs of the paper. Each gives on a named input an answer that its call's promise, the right-hand side of the
--- call's `ensures` there, rules out. What is promised is found by computing.
+-- The seven wrong programs of the paper. Each gives on a named input an answer that its call's contract rules out. What is promised there is found
+-- by computing.
 use Prim.Native.Nat.{ℕ}
-use mathlib.Core.Path.{_≡_, refl, sym, _∙_}
+use mathlib.Core.Path.{_≡_, refl, sym, ap, _∙_}
 use mathlib.Core.Logic.{_≢_}
 use mathlib.Core.List.{List, [], _∷_, _++_}
 use native.Mathlib.Omega.{arith}
 use lib.ListN.{length, drop}
+use denote.Ref.{now}
 use Rattle.basics.specs.Lists.{upFrom, keep, each, some}
 use Rattle.basics.specs.Sums.{sumFrom}
 use Rattle.words.specs.Word.{bit, flip, force, allOn, allOnes, linesOn}
@@ -26,10 +27,13 @@ use Rattle.faults.specs.Classes.{faultOf, stuckFaults, classFaults, isClass}
 use Rattle.judge.specs.Judging.{caughtBySome, left, verdict}
 use Rattle.judge.specs.Rules.{classRows, judgeRows}
 use Rattle.judge.specs.Answers.{toldVerdict}
+use Rattle.judge.proofs.judge.Reads as judge
 use Rattle.judge.specs.declared.Verdict.{Verdict}
 use Rattle.judge.specs.declared.Verdict.the-variants.{Complete, Left}
 use Rattle.dropping.specs.Dropping.{uncaught, dropped, wordsOf}
 use Rattle.dropping.specs.Rules.{badRecord, recordRows, dropRows}
+use Rattle.dropping.proofs.drop.Reads as drop-call
+use Rattle.testsets.proofs.compact_set.Reads as compact-set
 use Rattle.testsets.specs.Log2.{log2In, log2}
 use Rattle.testsets.specs.Sets.{score, bestOf, best, picks, bound, compactSet}
 use Rattle.faults.specs.Sites.{siteCount}
@@ -39,6 +43,8 @@ use Rattle.job.specs.Image.{linesIn, classesIn, gatesIn, vectorsIn, gateWords, 
 use Rattle.job.specs.Rules.{badClasses, badSizes, readRows, headerRows, contentRows, badLines, badCounts}
 use Rattle.job.specs.Answers.{toldRead}
 use Rattle.job.specs.declared.Read.the-variants.{Refused}
+use Rattle.job.proofs.read_job.Reads as read-job
+use Rattle.demands.proofs.Answering.{Ended}
 use Rattle.proved_samples.specs.Sample.{sampleWords, sampleJob}
 
 -- ---- what is promised
@@ -48,7 +54,7 @@ abbrev pub promisedRead : Told
 promisedRead = firstOf (readRows sampleJob 6 3)
     (answered (linesIn sampleJob ∷ classesIn sampleJob ∷ gatesIn sampleJob ∷ vectorsIn sampleJob ∷ []))
 
-read-is : promisedRead ≡ answered (3 ∷ 15 ∷ 2 ∷ 3 ∷ [])
+pub read-is : promisedRead ≡ answered (3 ∷ 15 ∷ 2 ∷ 3 ∷ [])
 unfolding sampleJob readRows headerRows contentRows badLines badCounts linesIn classesIn gatesIn vectorsIn gateWords vectorWords
     numberAt wordsAt badClasses badSizes firstBadGate firstBadVector firstBadFrom badGate isControl bit gatesOf
 read-is = refl
@@ -57,7 +63,7 @@ read-is = refl
 abbrev pub promisedVerdict : List ℕ → Told
 promisedVerdict xs = firstOf (judgeRows 3 sampleWords xs 1) (verdict (caughtBySome (gatesOf sampleWords) xs) (classFaults 3 (gatesOf sampleWords) 1))
 
-verdicts-are : (promisedVerdict (0 ∷ 7 ∷ []) ≡ answered (15 ∷ 18 ∷ 0 ∷ 1 ∷ 1 ∷ 2 ∷ 0 ∷ []))
+pub verdicts-are : (promisedVerdict (0 ∷ 7 ∷ []) ≡ answered (15 ∷ 18 ∷ 0 ∷ 1 ∷ 1 ∷ 2 ∷ 0 ∷ []))
     × (promisedVerdict (0 ∷ []) ≡ answered (9 ∷ 18 ∷ 0 ∷ 1 ∷ 0 ∷ 0 ∷ 0 ∷ []))
     × (promisedVerdict (0 ∷ 3 ∷ 5 ∷ []) ≡ answered (18 ∷ 18 ∷ 1 ∷ 0 ∷ 0 ∷ 0 ∷ 0 ∷ []))
 unfolding sampleWords upFrom keep each some bit flip force allOn allOnes linesOn gatesOf isControl step fires run forceAt stuckRun faulty caught
@@ -72,7 +78,7 @@ oneFault = 2 ∷ 1 ∷ 0 ∷ 0 ∷ []
 abbrev pub promisedList : List ℕ
 promisedList = after (dropRows 3 sampleWords 3 oneFault) (wordsOf (dropped (gatesOf sampleWords) 3 (faultsOf oneFault))) oneFault
 
-list-is : promisedList ≡ 0 ∷ 0 ∷ 0 ∷ 0 ∷ []
+pub list-is : promisedList ≡ 0 ∷ 0 ∷ 0 ∷ 0 ∷ []
 unfolding sampleWords dropRows recordRows circuitSetRows circuitRows vectorRows badRecord isFault isStuckAt isGate isMissingGate isMissingControl
     isExtraControl noFault faultsOf firstBadRecord firstBadGate firstBadFrom badGate isControl bit flip allOn gatesOf gateAt noGate fires
     step run without faulty caught uncaught dropped wordsOf keep inWord
@@ -87,7 +93,7 @@ promisedRoom words = after (compactRows 3 words (length room))
     (compactSet 3 (gatesOf words) ++ drop (length (compactSet 3 (gatesOf words))) room) room
 
 -- the sample circuit, and the circuit with no gate
-rooms-are : (promisedRoom sampleWords ≡ 0 ∷ 3 ∷ 5 ∷ 0 ∷ 0 ∷ []) × (promisedRoom [] ≡ 0 ∷ 7 ∷ 0 ∷ 0 ∷ 0 ∷ [])
+pub rooms-are : (promisedRoom sampleWords ≡ 0 ∷ 3 ∷ 5 ∷ 0 ∷ 0 ∷ []) × (promisedRoom [] ≡ 0 ∷ 7 ∷ 0 ∷ 0 ∷ 0 ∷ [])
 unfolding sampleWords upFrom keep each some sumFrom bit flip force allOn allOnes linesOn gatesOf isControl step fires run forceAt stuckRun faulty
     caught sites faultOf stuckFaults caughtBySome left log2In log2 score bestOf best picks siteCount bound compactSet badGate firstBadGate
     circuitSetRows circuitRows compactRows firstBadFrom
@@ -95,31 +101,76 @@ rooms-are = (refl, refl)
 
 -- ---- the wrong programs
 
--- 1. a call that refuses all jobs: of the sample job, whatever number and place it tells
-pub refuses-all-jobs : (refusal : Refusal) → toldRead (Refused refusal) ≡ promisedRead → ⊥
-refuses-all-jobs refusal promise = let told = promise ∙ read-is in let z : _≡_ {A = ℕ} 0 1 = cc in omega arith
+-- 1. a call that refuses all jobs: of the sample job, in lists of 6 words and 3 vectors, whatever number and place it tells
+pub refuses-all-jobs : (call : Ended read-job.Post)
+    → (now (call .inputs .0) ≡ sampleJob) × (length (now (call .inputs .1 .0)) ≡ 6) × (length (now (call .inputs .1 .1 .0)) ≡ 3)
+    → (refusal : Refusal) → call .result ≡ Refused refusal → ⊥
+refuses-all-jobs call asked refusal wrong =
+    let p = call .promised .0 in
+    let promise : toldRead (call .result) ≡ promisedRead = cc in
+    let told = ap toldRead (sym wrong) ∙ promise ∙ read-is in
+    let z : _≡_ {A = ℕ} 0 1 = cc in
+    omega arith
+
+-- the judge is asked for the stuck-at faults of the sample circuit by a set
+abbrev JudgedBy : List ℕ → Ended judge.Post → Type 0
+JudgedBy xs call = (call .inputs .0 ≡ 3) × (now (call .inputs .1 .0) ≡ sampleWords) × (now (call .inputs .1 .1 .0) ≡ xs) × (call .inputs .1 .1 .1 .0 ≡ 1)
+
+judge-promise : (xs : List ℕ) (call : Ended judge.Post) → JudgedBy xs call → toldVerdict (call .result) ≡ promisedVerdict xs
+judge-promise xs call asked = let p = call .promised in cc
 
 -- 2. a judge that says complete to all: of the set 0, 7, whatever numbers it tells
-pub complete-to-all : (number total : ℕ) → toldVerdict (Complete number total) ≡ promisedVerdict (0 ∷ 7 ∷ []) → ⊥
-complete-to-all number total promise = let told = promise ∙ verdicts-are .0 in let z : _≡_ {A = ℕ} 0 1 = cc in omega arith
+pub complete-to-all : (call : Ended judge.Post) → JudgedBy (0 ∷ 7 ∷ []) call → (number total : ℕ) → call .result ≡ Complete number total → ⊥
+complete-to-all call asked number total wrong =
+    let told = ap toldVerdict (sym wrong) ∙ judge-promise _ call asked ∙ verdicts-are .0 in
+    let z : _≡_ {A = ℕ} 0 1 = cc in
+    omega arith
 
--- 3. a generator with one fixed set: whatever it leaves in the room for every circuit, for the sample circuit and for that with no gate
-pub one-fixed-set : (fixed : List ℕ) → fixed ≡ promisedRoom sampleWords → fixed ≡ promisedRoom [] → ⊥
-one-fixed-set fixed sample none = let same = sym (sample ∙ rooms-are .0) ∙ none ∙ rooms-are .1 in let z : _≡_ {A = ℕ} 3 7 = cc in omega arith
+-- the compact set of a circuit of 3 lines is made in an empty room of 5 words
+abbrev MadeFor : List ℕ → Ended compact-set.Post → Type 0
+MadeFor words call = (call .inputs .0 ≡ 3) × (now (call .inputs .1 .0) ≡ words) × (now (call .inputs .1 .1 .0) ≡ room)
 
--- 4. a dropper that changes nothing: of a list whose one fault the vector catches
-pub drops-nothing : oneFault ≡ promisedList → ⊥
-drops-nothing promise = let left = promise ∙ list-is in let z : _≡_ {A = ℕ} 2 0 = cc in omega arith
+room-promise : (words : List ℕ) (call : Ended compact-set.Post) → MadeFor words call → now (call .exit .1 .1 .0) ≡ promisedRoom words
+room-promise words call asked = let p = call .promised .1 in cc
+
+-- 3. a generator with one fixed set: whatever it leaves in the room, for the sample circuit and for that with no gate
+pub one-fixed-set : (sample none : Ended compact-set.Post) → MadeFor sampleWords sample → MadeFor [] none
+    → (fixed : List ℕ) → now (sample .exit .1 .1 .0) ≡ fixed → now (none .exit .1 .1 .0) ≡ fixed → ⊥
+one-fixed-set sample none made other fixed a b =
+    let same = sym (rooms-are .0) ∙ sym (room-promise _ sample made) ∙ a ∙ sym b ∙ room-promise _ none other ∙ rooms-are .1 in
+    let z : _≡_ {A = ℕ} 3 7 = cc in
+    omega arith
+
+-- 4. a dropper that changes nothing: of a list whose one fault the vector 3 catches
+pub drops-nothing : (call : Ended drop-call.Post)
+    → (call .inputs .0 ≡ 3) × (now (call .inputs .1 .0) ≡ sampleWords) × (call .inputs .1 .1 .0 ≡ 3) × (now (call .inputs .1 .1 .1 .0) ≡ oneFault)
+    → now (call .exit .1 .1 .1 .0) ≡ oneFault → ⊥
+drops-nothing call asked wrong =
+    let p = call .promised .1 in
+    let promise : now (call .exit .1 .1 .1 .0) ≡ promisedList = cc in
+    let left = sym wrong ∙ promise ∙ list-is in
+    let z : _≡_ {A = ℕ} 2 0 = cc in
+    omega arith
 
 -- 5. a judge that looks at the first vector only: what is right of the set 0 is wrong of the set 0, 3, 5
-pub first-vector-only : (r : Verdict) → toldVerdict r ≡ promisedVerdict (0 ∷ []) → toldVerdict r ≡ promisedVerdict (0 ∷ 3 ∷ 5 ∷ []) → ⊥
-first-vector-only r first promise =
-    let same = sym (first ∙ verdicts-are .1) ∙ promise ∙ verdicts-are .2 in let z : _≡_ {A = ℕ} 9 18 = cc in omega arith
+pub first-vector-only : (one all : Ended judge.Post) → JudgedBy (0 ∷ []) one → JudgedBy (0 ∷ 3 ∷ 5 ∷ []) all
+    → (r : Verdict) → one .result ≡ r → all .result ≡ r → ⊥
+first-vector-only one all asked-one asked-all r first wrong =
+    let same = sym (verdicts-are .1) ∙ sym (judge-promise _ one asked-one) ∙ ap toldVerdict (first ∙ sym wrong) ∙ judge-promise _ all asked-all
+    ∙ verdicts-are .2 in
+    let z : _≡_ {A = ℕ} 9 18 = cc in
+    omega arith
 
 -- 6. a picker that chooses well once and then repeats itself: 0 is the best first pick, and again 0 is wrong, whatever follows
-pub repeats-itself : (rest : List ℕ) → 0 ∷ 0 ∷ rest ≡ promisedRoom sampleWords → ⊥
-repeats-itself rest promise = let left = promise ∙ rooms-are .0 in let z : _≡_ {A = ℕ} 0 3 = cc in omega arith
+pub repeats-itself : (call : Ended compact-set.Post) → MadeFor sampleWords call → (rest : List ℕ) → now (call .exit .1 .1 .0) ≡ 0 ∷ 0 ∷ rest → ⊥
+repeats-itself call made rest wrong =
+    let left = sym wrong ∙ room-promise _ call made ∙ rooms-are .0 in
+    let z : _≡_ {A = ℕ} 0 3 = cc in
+    omega arith
 
 -- 7. a made-up number caught: of the set 0, 7 any number but 15
-pub made-up-number : (number total : ℕ) (first : Fault) → number ≢ 15 → toldVerdict (Left number total first) ≡ promisedVerdict (0 ∷ 7 ∷ []) → ⊥
-made-up-number number total first other promise = let told = promise ∙ verdicts-are .0 in other cc
+pub made-up-number : (call : Ended judge.Post) → JudgedBy (0 ∷ 7 ∷ []) call
+    → (number total : ℕ) (first : Fault) → number ≢ 15 → call .result ≡ Left number total first → ⊥
+made-up-number call asked number total first other wrong =
+    let told = ap toldVerdict (sym wrong) ∙ judge-promise _ call asked ∙ verdicts-are .0 in
+    other cc

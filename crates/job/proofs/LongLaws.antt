@@ -16,13 +16,14 @@ use Rattle.refusals.specs.Tables.Told.{refused}
 use Rattle.refusals.specs.Checks.{fine}
 use Rattle.refusals.proofs.Tables.{refused-on}
 use Rattle.job.specs.Bytes.{numberAt}
-use Rattle.job.specs.Image.{linesIn, classesIn, gatesIn, vectorsIn}
-use Rattle.job.specs.Rules.{badLines, badClasses, badCounts, badSizes, headerRows, readRows}
-use Rattle.job.proofs.RuleLaws.{counts-right}
+use Rattle.job.specs.Image.{longestJob, linesIn, classesIn, gatesIn, vectorsIn}
+use Rattle.circuit.specs.Rules.{badLines, badCounts}
+use Rattle.job.specs.Rules.{badClasses, badSizes, headerRows, readRows}
+use Rattle.circuit.proofs.RuleLaws.{counts-right}
 
--- the longest job has 28 + 12 * 1024 + 4 * 2048 = 20,508 bytes
+-- more bytes than the longest job has
 abbrev pub Long : List ℕ → Type 0
-Long bytes = 20509 ≤ length bytes
+Long bytes = suc longestJob ≤ length bytes
 
 -- what is told of such bytes: the first broken one of rules 2 to 5, and where none is broken rule 6
 abbrev formToCountRows : List ℕ → List Row

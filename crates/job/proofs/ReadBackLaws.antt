@@ -7,11 +7,12 @@ use lib.ListN.{length}
 use borrow.Author.Tests.{le-ltb, eq-eqb, ne-eqb}
 use Rattle.refusals.specs.Tables.{firstOf}
 use Rattle.refusals.specs.Checks.{fine}
-use Rattle.circuit.specs.Rules.{firstBadGate, firstBadVector}
+use Rattle.circuit.specs.Rules.{firstBadGate, firstBadVector, badLines, badCounts}
 use Rattle.job.specs.Image.{linesIn, classesIn, gatesIn, vectorsIn, gateWords, vectorWords, gateCount, image}
-use Rattle.job.specs.Rules.{badLines, badClasses, badCounts, readRows, writeRows, contentRows}
+use Rattle.job.specs.Rules.{badClasses, readRows, writeRows, contentRows}
 use Rattle.job.proofs.ByteLaws.{length-words}
-use Rattle.job.proofs.RuleLaws.{JobOk, read-ok}
+use Rattle.job.proofs.WriteLaws.{JobOk}
+use Rattle.job.proofs.ReadLaws.{read-ok}
 
 pub ok-write : (n k : ℕ) (words xs : List ℕ) (room : ℕ) → JobOk n k words xs → length (image n k words xs) ≤ room
     → fine ≡ firstOf (writeRows n k words xs room) fine

@@ -12,3 +12,4 @@ pub mod BackwardLaws
 pub mod RuleLaws
 pub mod AnswerLaws
 pub mod Demand3
+pub mod PickLaws

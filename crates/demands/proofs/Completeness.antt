@@ -1,0 +1,123 @@
+-- What a verdict says of a set: complete exactly if every fault of the class is caught by some vector, and else the first that none catches.
+use Prim.Native.Nat.{ℕ}
+use mathlib.Core.Path.{_≡_, refl, sym, subst}
+use mathlib.Core.Logic.{_↔_}
+use mathlib.Core.List.{List, [], _∷_, _++_, List·Memᴰ, List·Memᴰ·head, List·Memᴰ·tail, Memᴰ·append-right}
+use native.Mathlib.Omega.{arith}
+use lib.ListN.{length}
+use Rattle.basics.proofs.Lists.{all-entry}
+use Rattle.circuit.specs.declared.Gate.{Gate}
+use Rattle.faults.specs.declared.Fault.{Fault}
+use Rattle.demands.proofs.Machine.{Missed, Has}
+use Rattle.demands.proofs.FaultLists.{Before, Ordered, Class, Kept, CaughtBySome, CaughtByNone, Shows}
+use Rattle.demands.proofs.FaultLists.Before.{by-place, by-line, by-value}
+use Rattle.demands.proofs.FaultLists.Shows.{complete, first}
+use Rattle.demands.proofs.Conditions.{not-both}
+use Rattle.demands.proofs.Judging.{Judges}
+
+-- every fault that the circuit has of a class is caught by some vector of the set
+abbrev pub EveryCaught : ℕ → List Gate → ℕ → List ℕ → Type 0
+EveryCaught n gs class xs = (f : Fault) → f .class ≡ class → Has n gs f → CaughtBySome gs xs f
+
+-- a fault of the class that none catches, and every earlier one is caught
+pub record FirstUncaught (n : ℕ) (gs : List Gate) (class : ℕ) (xs : List ℕ) (f : Fault) : Type 0 where
+  pub of-class : f .class ≡ class
+  pub is-fault : Has n gs f
+  pub by-none : CaughtByNone gs xs f
+  pub earlier : (h : Fault) → h .class ≡ class → Has n gs h → Before h f → CaughtBySome gs xs h
+
+-- of the faults of the class, `total` of them, `number` are caught by some vector, and each other by none
+pub record Counted (n : ℕ) (gs : List Gate) (class : ℕ) (xs : List ℕ) (number total : ℕ) : Type 0 where
+  pub faults : List Fault
+  pub of-class : Class n gs class faults
+  pub caught : List Fault
+  pub caught-are : Kept (CaughtBySome gs xs) (CaughtByNone gs xs) faults caught
+  pub number-is : number ≡ length caught
+  pub total-is : total ≡ length faults
+
+-- ---- order
+
+not-twice : (f h : Fault) → Before f h → Before h f → ⊥
+not-twice f h (by-place a) (by-place b) = omega arith
+not-twice f h (by-place a) (by-line p b) = omega arith
+not-twice f h (by-place a) (by-value p l b) = omega arith
+not-twice f h (by-line p a) (by-place b) = omega arith
+not-twice f h (by-line p a) (by-line q b) = omega arith
+not-twice f h (by-line p a) (by-value q l b) = omega arith
+not-twice f h (by-value p l a) (by-place b) = omega arith
+not-twice f h (by-value p l a) (by-line q b) = omega arith
+not-twice f h (by-value p l a) (by-value q m b) = omega arith
+
+-- what comes before an entry stands before it
+stands-before : (before : List Fault) (f : Fault) (later : List Fault) → Ordered (before ++ (f ∷ later))
+    → (h : Fault) → List·Memᴰ h (before ++ (f ∷ later)) → Before h f → List·Memᴰ h before
+stands-before [] f later o h (List·Memᴰ·head q) b = absurd (not-twice f f (subst (λ y. Before y f) q b) (subst (λ y. Before y f) q b))
+stands-before [] f later o h (List·Memᴰ·tail m) b = absurd (not-twice f h (all-entry (Before f) m (o .0)) b)
+stands-before (g ∷ before) f later o h (List·Memᴰ·head q) b = List·Memᴰ·head q
+stands-before (g ∷ before) f later o h (List·Memᴰ·tail m) b = List·Memᴰ·tail (stands-before before f later (o .1) h m b)
+
+-- ---- verdicts
+
+module _ {n : ℕ} {words xs : List ℕ} {class : ℕ} {values : List ℕ} (w : Judges n words xs class values) where
+  abbrev gs : List Gate
+  gs = w .gs
+
+  -- caught by some and by none is never both
+  apart : (f : Fault) → Has n gs f → CaughtBySome gs xs f → CaughtByNone gs xs f → ⊥
+  apart f h c m = not-both n gs f h (c .0) (c .2) (all-entry (Missed gs f) (c .1) m)
+
+  shown-in : (before : List Fault) (f : Fault) (later : List Fault) → w .faults ≡ before ++ (f ∷ later) → (f .class ≡ class) × Has n gs f
+  shown-in before f later parts =
+      all-entry (λ h. (h .class ≡ class) × Has n gs h)
+      (subst (List·Memᴰ f) (sym parts) (Memᴰ·append-right before (List·Memᴰ·head refl))) (w .of-class .each-is)
+
+  -- complete exactly if all are caught
+  pub complete-means : (number total flag : ℕ) (rest : List ℕ) → values ≡ number ∷ total ∷ flag ∷ rest → (flag ≡ 1) ↔ EveryCaught n gs class xs
+  complete-means number total flag rest e = by-shown (w .verdict .shows)
+    where
+      by-shown : Shows (CaughtBySome gs xs) (CaughtByNone gs xs) (w .faults) (w .verdict .shown) → (flag ≡ 1) ↔ EveryCaught n gs class xs
+      by-shown (complete all shown) = (
+        λ t f c h. all-entry (CaughtBySome gs xs) (w .of-class .has-all f c h) all,
+        λ every. let told = w .verdict .told in cc,
+      )
+      by-shown (first before f later parts front none shown) =
+          let is = shown-in before f later parts in
+          let zero : flag ≡ 0 = (let told = w .verdict .told in cc) in
+          (λ t. absurd (omega arith), λ every. absurd (apart f (is .1) (every f (is .0) (is .1)) none))
+
+  -- else the fault shown is the first that none catches
+  pub first-means : (number total : ℕ) (f : Fault) → values ≡ number ∷ total ∷ 0 ∷ f .class ∷ f .place ∷ f .line ∷ f .value ∷ []
+      → FirstUncaught n gs class xs f
+  first-means number total f e = by-shown (w .verdict .shows)
+    where
+      by-shown : Shows (CaughtBySome gs xs) (CaughtByNone gs xs) (w .faults) (w .verdict .shown) → FirstUncaught n gs class xs f
+      by-shown (complete all shown) = let told = w .verdict .told in let z : _≡_ {A = ℕ} 0 1 = cc in absurd (omega arith)
+      by-shown (first before h later parts front none shown) =
+          let told = w .verdict .told in
+          let class-is : h .class ≡ f .class = cc in
+          let place-is : h .place ≡ f .place = cc in
+          let line-is : h .line ≡ f .line = cc in
+          let value-is : h .value ≡ f .value = cc in
+          let same : h ≡ f = λ i. record { class = class-is i; place = place-is i; line = line-is i; value = value-is i } in
+          let is = shown-in before h later parts in
+          subst (FirstUncaught n gs class xs) same (record {
+            of-class = is .0;
+            is-fault = is .1;
+            by-none = none;
+            earlier = λ k c has b. all-entry (CaughtBySome gs xs)
+                (stands-before before h later (subst Ordered parts (w .of-class .ordered)) k (subst (List·Memᴰ k) parts (w .of-class .has-all k c has)) b)
+                front;
+          })
+
+  -- the counts are true
+  pub counts-mean : (number total : ℕ) (rest : List ℕ) → values ≡ number ∷ total ∷ rest → Counted n gs class xs number total
+  counts-mean number total rest e =
+      let told = w .verdict .told in
+      record {
+        faults = w .faults;
+        of-class = w .of-class;
+        caught = w .verdict .caught;
+        caught-are = w .verdict .caught-are;
+        number-is = cc;
+        total-is = cc;
+      }

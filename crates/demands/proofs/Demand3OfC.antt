@@ -1,0 +1,93 @@
+-- Demand 3 for the C calls: the set that `nuf_compact_set` leaves in the room, where its number is 0, by what `nuf_catches` and
+-- `nuf_catches_multiple` tell of its vectors.
+use Prim.Native.Nat.{ℕ, suc, _+_, _*_, _^_, _≤_, _<_}
+use mathlib.Core.Path.{_≡_, refl, sym, _∙_}
+use mathlib.Core.List.{List, [], _∷_, List·Memᴰ}
+use lib.ListN.{length, take}
+use denote.Ref.{now}
+use Rattle.refusals.specs.Tables.{Told, firstOf}
+use Rattle.refusals.specs.Checks.{fine}
+use Rattle.refusals.proofs.Tables.{answered-fine}
+use Rattle.circuit.specs.declared.Gate.{Gate}
+use Rattle.simulator.specs.Rules.{catchRows}
+use Rattle.simulator.specs.Rules.{multipleRows}
+use Rattle.faults.specs.declared.Fault.{Fault}
+use Rattle.nufsadeem.proofs.nuf_catches.Reads as catches
+use Rattle.nufsadeem.proofs.nuf_catches_multiple.Reads as catches-multiple
+use Rattle.answers.specs.declared.Catch.{Catch}
+use Rattle.nufsadeem.proofs.nuf_compact_set.Reads as compact-set
+use Rattle.demands.proofs.Machine.{Circuit}
+use Rattle.demands.proofs.FaultLists.{Class, Picks}
+use Rattle.demands.proofs.SetsCatch.{compact-single, compact-multiple, compact-few, compact-picks}
+use Rattle.demands.proofs.Sets.{MakesCompact, compact-set-in-c}
+use Rattle.demands.proofs.Answering.{Ended}
+use Rattle.demands.proofs.InC.{toldBy, tells-answer, told-in-c}
+use Rattle.demands.proofs.Demand1OfC as refusing
+use Rattle.demands.proofs.Demand3.{Lent}
+
+-- what a struct tells
+abbrev tells : Catch → Told
+tells r = toldBy (r .number) (r .place) (r .caught ∷ [])
+
+module _ (made : Ended compact-set.Post) (zero : made .result .number ≡ 0) where
+  abbrev n : ℕ
+  n = made .inputs .0
+
+  abbrev words : List ℕ
+  words = now (made .inputs .1 .0)
+
+  abbrev k : ℕ
+  k = made .result .count
+
+  abbrev written : List ℕ
+  written = take k (now (made .exit .1 .1 .0))
+
+  is : MakesCompact n words (now (made .inputs .1 .1 .0)) (k ∷ []) (now (made .exit .1 .1 .0))
+  is = compact-set-in-c .as-said made zero
+
+  pub at-most : (gs : List Gate) × Circuit n words gs × ((log : ℕ) × (2 ^ log ≤ n * suc (length gs)) × (n * suc (length gs) < 2 ^ suc log) × (k ≤ 2 + log))
+  at-most = (is .gs, is .circuit, (is .log, is .log-below, is .log-above, compact-few _ _ _ _ k is))
+
+  pub by-the-rule : (gs : List Gate) × Circuit n words gs × ((faults : List Fault) × Class n gs 1 faults × Picks n gs faults written)
+  by-the-rule = (is .gs, is .circuit, (is .faults, is .stuck-at, compact-picks _ _ _ _ k is))
+
+  pub every-single : (asked : Ended catches.Post) → Lent n words (asked .inputs .0) (now (asked .inputs .1 .0))
+      → asked .inputs .1 .1 .1 .0 .class ≡ 1 → asked .result .number ≡ 0
+      → (v : ℕ) × List·Memᴰ v written
+      × ((call : Ended catches.Post) → Lent n words (call .inputs .0) (now (call .inputs .1 .0))
+      → call .inputs .1 .1 .0 ≡ v → call .inputs .1 .1 .1 .0 ≡ asked .inputs .1 .1 .1 .0 → (call .result .number ≡ 0) × (call .result .caught ≡ 1))
+  every-single asked same class none =
+      let x : ℕ = asked .inputs .1 .1 .0 in
+      let f : Fault = asked .inputs .1 .1 .1 .0 in
+      let taken = tells-answer _ (asked .result .place) _ (asked .result .caught ∷ []) .1 (none, refl) in
+      let p = told-in-c 1 refusing.catches-refuses asked _ (asked .promised) in
+      let passed = answered-fine (catchRows (asked .inputs .0) (now (asked .inputs .1 .0)) x f) _ _ (sym taken ∙ p) .1 in
+      let w = compact-single _ _ _ _ k is x f (coe 0 1 (i. fine ≡ firstOf (catchRows (same .0 i) (same .1 i) x f) fine) passed) class in (
+        w .0,
+        w .1,
+        λ call lent vector fault.
+            let q = told-in-c 1 refusing.catches-refuses call _ (call .promised) in
+            let r = tells-answer _ _ (call .result .caught ∷ []) (1 ∷ []) .0 (w .2 (tells (call .result)) cc) in
+            (r .0, let e = r .1 in cc),
+      )
+
+  pub every-multiple : (asked : Ended catches-multiple.Post) → Lent n words (asked .inputs .0) (now (asked .inputs .1 .0))
+      → asked .result .number ≡ 0
+      → (v : ℕ) × List·Memᴰ v written
+      × ((call : Ended catches-multiple.Post) → Lent n words (call .inputs .0) (now (call .inputs .1 .0))
+      → call .inputs .1 .1 .0 ≡ v → now (call .inputs .1 .1 .1 .0) ≡ now (asked .inputs .1 .1 .1 .0)
+      → (call .result .number ≡ 0) × (call .result .caught ≡ 1))
+  every-multiple asked same none =
+      let x : ℕ = asked .inputs .1 .1 .0 in
+      let list : List ℕ = now (asked .inputs .1 .1 .1 .0) in
+      let taken = tells-answer _ (asked .result .place) _ (asked .result .caught ∷ []) .1 (none, refl) in
+      let p = told-in-c 1 refusing.catches-multiple-refuses asked _ (asked .promised) in
+      let passed = answered-fine (multipleRows (asked .inputs .0) (now (asked .inputs .1 .0)) x list) _ _ (sym taken ∙ p) .1 in
+      let w = compact-multiple _ _ _ _ k is x list (coe 0 1 (i. fine ≡ firstOf (multipleRows (same .0 i) (same .1 i) x list) fine) passed) in (
+        w .0,
+        w .1,
+        λ call lent vector entries.
+            let q = told-in-c 1 refusing.catches-multiple-refuses call _ (call .promised) in
+            let r = tells-answer _ _ (call .result .caught ∷ []) (1 ∷ []) .0 (w .2 (tells (call .result)) cc) in
+            (r .0, let e = r .1 in cc),
+      )

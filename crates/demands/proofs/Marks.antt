@@ -1,0 +1,206 @@
+-- The marks of a coverage: what it means that a fault is marked, which marks a vector adds, and what the count of a class tells.
+use Prim.Native.Nat.{ℕ, zero, suc, _-_, _<_}
+use mathlib.Core.Path.{_≡_, refl, sym, ap, _∙_, subst}
+use mathlib.Core.Logic.{_↔_, _⊎_, inl, inr}
+use mathlib.Core.Bool.{true, _||_, true≢false}
+use mathlib.Core.List.{List, [], _∷_, List·Memᴰ·head, List·Memᴰ·eq-of-singleton}
+use native.Mathlib.Omega.{arith}
+use lib.ListN.{length, getD}
+use lib.Dec.{eqb}
+use borrow.Author.Tests.{eq-eqb, ne-eqb, eqb-true}
+use Rattle.basics.proofs.Tests.{by-test, by-equal, or-left, or-right}
+use Rattle.basics.proofs.All.{all-map}
+use Rattle.words.specs.Word.{bit}
+use Rattle.words.proofs.OrLaws.{on-or}
+use Rattle.circuit.specs.Gates.{gatesOf}
+use Rattle.circuit.specs.Sound.{Sound}
+use Rattle.circuit.specs.declared.Gate.{Gate}
+use Rattle.faults.specs.declared.Fault.{Fault}
+use Rattle.faults.proofs.ClassLaws.{names-line}
+use Rattle.faults.specs.Classes.{classFaults}
+use Rattle.judge.specs.Judging.{caughtBySome, verdict}
+use Rattle.marking.specs.Marks.{marked}
+use Rattle.judge.specs.Coverages.{withVector, withAll, isMarked}
+use Rattle.judge.specs.declared.coverage.Coverage.{Coverage}
+use Rattle.marking.proofs.MarkedLaws.{marked-length}
+use Rattle.judge.proofs.MeanLaws.{Sized, HasMark, mark-mean}
+use Rattle.judge.proofs.MeanLaws.HasMark.{at-level, at-gate}
+use Rattle.demands.proofs.Machine.{Circuit, Caught, Has}
+use Rattle.demands.proofs.Machine.Has.{stuck-at as has-stuck, missing-gate as has-gate, missing-control as has-control}
+use Rattle.demands.proofs.Machine.Has.{extra-control as has-extra}
+use Rattle.demands.proofs.MachineLaws.{circuit-is}
+use Rattle.demands.proofs.HasLaws.{of-has}
+use Rattle.demands.proofs.FaultLists.{Class, CaughtBySome, CaughtByNone, Verdict}
+use Rattle.demands.proofs.ClassLaws.{class-is}
+use Rattle.demands.proofs.VerdictLaws.{Decides, decides-some, toldOf, verdict-is}
+
+-- ---- marks
+
+-- the mark of a fault: a line of the word of its class, value and place
+pub data Marked (c : Coverage) (f : Fault) : Type 0 where
+  stuck-at-0 : f .class ≡ 1 → f .value ≡ 0 → bit (getD (c .«stuck_at_0») (f .place) 0) (f .line) ≡ 1 → Marked c f
+  stuck-at-1 : f .class ≡ 1 → f .value ≡ 1 → bit (getD (c .«stuck_at_1») (f .place) 0) (f .line) ≡ 1 → Marked c f
+  missing-gate : f .class ≡ 2 → bit (getD (c .«missing_gates») (f .place - 1) 0) (f .line) ≡ 1 → Marked c f
+  missing-control : f .class ≡ 3 → bit (getD (c .«missing_controls») (f .place - 1) 0) (f .line) ≡ 1 → Marked c f
+  extra-control : f .class ≡ 4 → bit (getD (c .«extra_controls») (f .place - 1) 0) (f .line) ≡ 1 → Marked c f
+
+abbrev pub Unmarked : Coverage → Fault → Type 0
+Unmarked c f = Marked c f → ⊥
+
+-- its arrays have their lengths
+pub record Full (c : Coverage) : Type 0 where
+  pub levels-0 : length (c .«stuck_at_0») ≡ 1025
+  pub levels-1 : length (c .«stuck_at_1») ≡ 1025
+  pub gates : length (c .«missing_gates») ≡ 1024
+  pub controls : length (c .«missing_controls») ≡ 1024
+  pub extras : length (c .«extra_controls») ≡ 1024
+
+-- ---- what the calls answer
+
+-- the count of a class: the verdict on its faults by their marks
+pub record Counts (n : ℕ) (words : List ℕ) (c : Coverage) (class : ℕ) (values : List ℕ) : Type 0 where
+  pub gs : List Gate
+  pub circuit : Circuit n words gs
+  pub faults : List Fault
+  pub of-class : Class n gs class faults
+  pub verdict : Verdict (Marked c) (Unmarked c) faults values
+
+-- a vector added: of the faults that the circuit has those are marked that were or that it catches, and no mark goes
+pub record Adds (n : ℕ) (words : List ℕ) (x : ℕ) (old new : Coverage) : Type 0 where
+  pub gs : List Gate
+  pub circuit : Circuit n words gs
+  pub marks : Full old → (f : Fault) → Has n gs f → Marked new f ↔ (Marked old f ⊎ Caught gs f x)
+  pub keeps : (f : Fault) → Marked old f → Marked new f
+  pub full : Full old → Full new
+
+-- ---- the promised coverage is so
+
+module _ (c : Coverage) (f : Fault) where
+  is-0 : f .class ≡ 1 → f .value ≡ 0 → isMarked c f ≡ eqb (bit (getD (c .«stuck_at_0») (f .place) 0) (f .line)) 1
+  unfolding isMarked
+  is-0 e v = rw (eq-eqb (f .class) 1 e, eq-eqb (f .value) 0 v)
+
+  is-1 : f .class ≡ 1 → f .value ≡ 1 → isMarked c f ≡ eqb (bit (getD (c .«stuck_at_1») (f .place) 0) (f .line)) 1
+  unfolding isMarked
+  is-1 e v = rw (eq-eqb (f .class) 1 e, ne-eqb (f .value) 0 (λ q. omega arith))
+
+  is-2 : f .class ≡ 2 → isMarked c f ≡ eqb (bit (getD (c .«missing_gates») (f .place - 1) 0) (f .line)) 1
+  unfolding isMarked
+  is-2 e = rw (ne-eqb (f .class) 1 (λ q. omega arith), eq-eqb (f .class) 2 e)
+
+  is-3 : f .class ≡ 3 → isMarked c f ≡ eqb (bit (getD (c .«missing_controls») (f .place - 1) 0) (f .line)) 1
+  unfolding isMarked
+  is-3 e = rw (ne-eqb (f .class) 1 (λ q. omega arith), ne-eqb (f .class) 2 (λ q. omega arith), eq-eqb (f .class) 3 e)
+
+  is-4 : f .class ≡ 4 → isMarked c f ≡ eqb (bit (getD (c .«extra_controls») (f .place - 1) 0) (f .line)) 1
+  unfolding isMarked
+  is-4 e = rw (ne-eqb (f .class) 1 (λ q. omega arith), ne-eqb (f .class) 2 (λ q. omega arith), ne-eqb (f .class) 3 (λ q. omega arith))
+
+  pub marked-true : Marked c f → isMarked c f ≡ true
+  marked-true (stuck-at-0 e v m) = is-0 e v ∙ eq-eqb _ 1 m
+  marked-true (stuck-at-1 e v m) = is-1 e v ∙ eq-eqb _ 1 m
+  marked-true (missing-gate e m) = is-2 e ∙ eq-eqb _ 1 m
+  marked-true (missing-control e m) = is-3 e ∙ eq-eqb _ 1 m
+  marked-true (extra-control e m) = is-4 e ∙ eq-eqb _ 1 m
+
+  module _ (n : ℕ) (gs : List Gate) where
+    true-marked : Has n gs f → isMarked c f ≡ true → Marked c f
+    true-marked (has-stuck e s v) t = by-equal (f .value) 0
+        (λ z. stuck-at-0 e z (eqb-true _ 1 (sym (is-0 e z) ∙ t)))
+        (λ d. let o : f .value ≡ 1 = omega arith in stuck-at-1 e o (eqb-true _ 1 (sym (is-1 e o) ∙ t)))
+    true-marked (has-gate e lo hi l v) t = missing-gate e (eqb-true _ 1 (sym (is-2 e) ∙ t))
+    true-marked (has-control e lo hi o v) t = missing-control e (eqb-true _ 1 (sym (is-3 e) ∙ t))
+    true-marked (has-extra e lo hi l o g v) t = extra-control e (eqb-true _ 1 (sym (is-4 e) ∙ t))
+
+    decides-marked : Has n gs f → Decides (isMarked c) (Marked c) (Unmarked c) f
+    decides-marked h = record {
+      passes = (true-marked h, marked-true);
+      fails = (
+        λ t m. true≢false (sym (marked-true m) ∙ t),
+        λ u. by-test (isMarked c f) (λ t. absurd (u (true-marked h t))) (λ t. t),
+      );
+    }
+
+-- no mark goes
+stays-marked : (ws ms : List ℕ) (i j : ℕ) → bit (getD ws i 0) j ≡ 1 → bit (getD (marked ws ms) i 0) j ≡ 1
+unfolding marked
+stays-marked ws [] i j e = e
+stays-marked [] (m ∷ ms) i j e = e
+stays-marked (w ∷ ws) (m ∷ ms) zero j e = eqb-true _ 1 (on-or w m j ∙ or-left (eqb (bit m j) 1) (eq-eqb (bit w j) 1 e))
+stays-marked (w ∷ ws) (m ∷ ms) (suc i) j e = stays-marked ws ms i j e
+
+module _ (n : ℕ) (words : List ℕ) (x : ℕ) (c : Coverage) (ok : Sound n words) where
+  abbrev its : List Gate
+  its = gatesOf words
+
+  abbrev new : Coverage
+  new = withVector c n its x
+
+  all-kept : (f : Fault) → Marked c f → Marked new f
+  unfolding withVector
+  all-kept f (stuck-at-0 e v m) = stuck-at-0 e v (stays-marked _ _ (f .place) (f .line) m)
+  all-kept f (stuck-at-1 e v m) = stuck-at-1 e v (stays-marked _ _ (f .place) (f .line) m)
+  all-kept f (missing-gate e m) = missing-gate e (stays-marked _ _ (f .place - 1) (f .line) m)
+  all-kept f (missing-control e m) = missing-control e (stays-marked _ _ (f .place - 1) (f .line) m)
+  all-kept f (extra-control e m) = extra-control e (stays-marked _ _ (f .place - 1) (f .line) m)
+
+  still-full : Full c → Full new
+  unfolding withVector
+  still-full w = record {
+    levels-0 = marked-length (c .«stuck_at_0») _ ∙ w .levels-0;
+    levels-1 = marked-length (c .«stuck_at_1») _ ∙ w .levels-1;
+    gates = marked-length (c .«missing_gates») _ ∙ w .gates;
+    controls = marked-length (c .«missing_controls») _ ∙ w .controls;
+    extras = marked-length (c .«extra_controls») _ ∙ w .extras;
+  }
+
+  has-mark : (f : Fault) → Has n its f → HasMark n its f
+  has-mark f h = by-place h
+    where
+      line : f .line < n
+      line = names-line n words f ok (of-has n its f h)
+
+      by-place : Has n its f → HasMark n its f
+      by-place (has-stuck e s v) = at-level e v (s .0) line
+      by-place (has-gate e lo hi l v) = at-gate (omega arith) (omega arith) v lo hi line
+      by-place (has-control e lo hi o v) = at-gate (omega arith) (omega arith) v lo hi line
+      by-place (has-extra e lo hi l o g v) = at-gate (omega arith) (omega arith) v lo hi line
+
+  caught-one : (f : Fault) → CaughtBySome its (x ∷ []) f → Caught its f x
+  caught-one f w = subst (Caught its f) (List·Memᴰ·eq-of-singleton (w .1)) (w .2)
+
+  newly : Full c → (f : Fault) → Has n its f → Marked new f ↔ (Marked c f ⊎ Caught its f x)
+  unfolding withAll
+  newly w f h =
+      let sized : Sized c = record { stuck-0 = w .levels-0; stuck-1 = w .levels-1; gates = w .gates; controls = w .controls; extras = w .extras } in
+      let mean : isMarked new f ≡ (isMarked c f || caughtBySome its (x ∷ []) f) =
+      mark-mean n its (ok .gates-fit) (x ∷ []) c sized f (has-mark f h) in
+      let some = decides-some n its (x ∷ []) f h in (
+        λ m. by-test (isMarked c f)
+            (λ t. inl (true-marked c f n its h t))
+            (λ t. inr (caught-one f (some .passes .0 (ap (λ b. b || caughtBySome its (x ∷ []) f) (sym t) ∙ sym mean ∙ marked-true new f m)))),
+        λ s. either s mean some,
+      )
+    where
+      either : Marked c f ⊎ Caught its f x → isMarked new f ≡ (isMarked c f || caughtBySome its (x ∷ []) f)
+          → Decides (caughtBySome its (x ∷ [])) (CaughtBySome its (x ∷ [])) (CaughtByNone its (x ∷ [])) f → Marked new f
+      either (inl m) mean some = all-kept f m
+      either (inr k) mean some =
+          true-marked new f n its h (mean ∙ or-right (isMarked c f) (some .passes .1 (x, List·Memᴰ·head refl, k)))
+
+  pub adds : Adds n words x c new
+  adds = record { gs = its; circuit = circuit-is n words ok; marks = newly; keeps = all-kept; full = still-full }
+
+pub counts : (n : ℕ) (words : List ℕ) (c : Coverage) (class : ℕ) → Sound n words
+    → Counts n words c class (toldOf (isMarked c) (classFaults n (gatesOf words) class))
+counts n words c class ok =
+    let gs : List Gate = gatesOf words in
+    let theirs = class-is n gs (ok .gates-ok) class in
+    record {
+      gs = gs;
+      circuit = circuit-is n words ok;
+      faults = classFaults n gs class;
+      of-class = theirs;
+      verdict = verdict-is (isMarked c) (Marked c) (Unmarked c) (classFaults n gs class)
+          (all-map (λ f k. decides-marked c f n gs (k .1)) (classFaults n gs class) (theirs .each-is));
+    }

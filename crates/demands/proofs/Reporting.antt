@@ -1,0 +1,218 @@
+-- What the report is: from any bytes a text, of a refused job its refusal, and of any other the verdicts on the classes that it wants.
+use Prim.Native.Nat.{ℕ, zero, suc, _+_, _-_, _/_, _%_, _^_, _≤_, _<_}
+use mathlib.Core.Path.{_≡_, refl, sym, ap, ap₂, _∙_, subst}
+use mathlib.Core.Logic.{_≢_}
+use mathlib.Core.List.{List, [], _∷_, _++_, append-nil}
+use native.Mathlib.Nat.{pow-suc}
+use native.Mathlib.Omega.{arith}
+use lib.ListN.{length, drop}
+use lib.Dec.{ltb, eqb}
+use borrow.Author.Tests.{eq-eqb, ne-eqb, ltb-true, ltb-false, lt-ltb, eqb-true, eqb-false}
+use denote.Ref.{now}
+use Rattle.basics.specs.Choice.{choice}
+use Rattle.basics.specs.Lists.{upFrom, keep, each, All}
+use Rattle.basics.proofs.Tests.{by-test, by-equal, choice-true, choice-false}
+use Rattle.words.specs.Word.{bit}
+use Rattle.refusals.specs.Tables.{firstOf, after}
+use Rattle.refusals.specs.Checks.{fine}
+use Rattle.refusals.proofs.Tables.{after-fine}
+use Rattle.circuit.specs.Gates.{gatesOf}
+use Rattle.circuit.specs.Sound.{Sound}
+use Rattle.circuit.specs.declared.Gate.{Gate}
+use Rattle.faults.specs.declared.Fault.{Fault}
+use Rattle.faults.specs.Classes.{classFaults}
+use Rattle.judge.specs.Judging.{caughtOf, left}
+use Rattle.marking.specs.Firsts.{firstTold}
+use Rattle.job.specs.Image.{linesIn, classesIn, gateWords, vectorWords}
+use Rattle.job.specs.Rules.{readRows}
+use Rattle.text.specs.Decimal.{digit, decimalIn, decimal}
+use Rattle.report_text.specs.Lines.{field, line}
+use Rattle.report_text.specs.Report.{letterOf, shown, firstText, classText, isWanted, wanted, jobText, refusedText, textOf, reportText}
+use Rattle.report_text.specs.Rules.{reportRows}
+use Rattle.report_text.specs.Answers.{toldReported}
+use Rattle.report_text.proofs.report.Reads as report
+use Rattle.nufsadeem.proofs.jobs.nuf_report.Reads as c-report
+use Rattle.demands.proofs.FirstBroken.{FirstBroken, by-first}
+use Rattle.demands.proofs.Judging.{Judges, judges}
+use Rattle.demands.proofs.Jobs.{Job, imageOf, held-set, held-job, held-image}
+use Rattle.demands.proofs.Answering.{Answers, means}
+use Rattle.demands.proofs.InC.{AnswersInC, means-in-c}
+use Rattle.demands.proofs.Demand1 as refusing
+use Rattle.demands.proofs.Demand1OfC as refusing-in-c
+
+-- ---- text
+
+-- a number in decimal, byte 48 being 0, with no zero in front
+pub data Decimal : ℕ → List ℕ → Type 0 where
+  one : {x : ℕ} → x < 10 → Decimal x ((48 + x) ∷ [])
+  more : {x : ℕ} {digits : List ℕ} → 10 ≤ x → Decimal (x / 10) digits → Decimal x (digits ++ ((48 + x % 10) ∷ []))
+
+in-places : (places x : ℕ) → x < 10 ^ suc places → Decimal x (decimalIn (suc places) x)
+unfolding decimalIn digit
+in-places zero x h = subst (Decimal x) (sym (choice-true (lt-ltb x 10 (omega arith)) (digit x ∷ []) _)) (one (omega arith))
+in-places (suc places) x h = by-test (ltb x 10)
+    (λ t. subst (Decimal x) (sym (choice-true t (digit x ∷ []) _)) (one (ltb-true x 10 t)))
+    (λ t. subst (Decimal x) (sym (choice-false t (digit x ∷ []) _))
+    (more (ltb-false x 10 t) (in-places places (x / 10) (omega (arith, pow-suc 10 (suc places))))))
+
+-- a field is one blank and such a number
+pub field-is : (x : ℕ) → x < 10 ^ 10 → (digits : List ℕ) × (field x ≡ 32 ∷ digits) × Decimal x digits
+unfolding field decimal
+field-is x h = (decimal x, refl, in-places 9 x h)
+
+abbrev pub fields : List ℕ → List ℕ
+fields [] = []
+fields (x ∷ xs) = field x ++ fields xs
+
+-- a line: a letter, what follows it, and LF
+abbrev pub textLine : ℕ → List ℕ → List ℕ
+textLine letter rest = letter ∷ (rest ++ (10 ∷ []))
+
+-- the letters S, M, C and X
+abbrev pub letter : ℕ → ℕ
+letter class = choice (eqb class 1) 83 (choice (eqb class 2) 77 (choice (eqb class 3) 67 88))
+
+-- ---- what the report says
+
+-- after the counts: ok, or the first uncaught fault, S: level, line, value; M: gate; C and X: gate, line
+pub data Last (class : ℕ) (shown text : List ℕ) : Type 0 where
+  ok : shown ≡ 1 ∷ 0 ∷ 0 ∷ 0 ∷ 0 ∷ [] → text ≡ 32 ∷ 111 ∷ 107 ∷ [] → Last class shown text
+  stuck : class ≡ 1 → (k p l v : ℕ) → shown ≡ 0 ∷ k ∷ p ∷ l ∷ v ∷ [] → text ≡ fields (p ∷ l ∷ v ∷ []) → Last class shown text
+  gate : class ≡ 2 → (k p l v : ℕ) → shown ≡ 0 ∷ k ∷ p ∷ l ∷ v ∷ [] → text ≡ fields (p ∷ []) → Last class shown text
+  control : 3 ≤ class → (k p l v : ℕ) → shown ≡ 0 ∷ k ∷ p ∷ l ∷ v ∷ [] → text ≡ fields (p ∷ l ∷ []) → Last class shown text
+
+-- the line of a class: its letter, the number caught, the number in the class, as the judge of the set finds them
+pub record ClassLine (n : ℕ) (words xs : List ℕ) (class : ℕ) (text : List ℕ) : Type 0 where
+  pub number : ℕ
+  pub total : ℕ
+  pub shown : List ℕ
+  pub judged : Judges n words xs class (number ∷ total ∷ shown)
+  pub last : List ℕ
+  pub last-is : Last class shown last
+  pub text-is : text ≡ textLine (letter class) (fields (number ∷ total ∷ []) ++ last)
+
+-- a class has a line where its bit is 1, and none where it is 0
+pub data Wanted (n : ℕ) (words xs : List ℕ) (classes class : ℕ) (text : List ℕ) : Type 0 where
+  wants : bit classes (class - 1) ≡ 1 → ClassLine n words xs class text → Wanted n words xs classes class text
+  wants-not : bit classes (class - 1) ≢ 1 → text ≡ [] → Wanted n words xs classes class text
+
+-- a job that is read with room for the longest: E with the refusal, or J with its numbers and a line for each class that it wants, in code order
+pub data Reports (bytes text : List ℕ) : Type 0 where
+  refuses : (k p : ℕ) → FirstBroken (readRows bytes 3072 2048) k p → text ≡ textLine 69 (fields (k ∷ p ∷ [])) → Reports bytes text
+  verdicts : (n classes : ℕ) (words xs : List ℕ) (gs : List Gate) → Job n classes words xs gs
+      → (All (λ b. b < 256) bytes → bytes ≡ imageOf n classes (length gs) words xs)
+      → (s m c x : List ℕ) → Wanted n words xs classes 1 s → Wanted n words xs classes 2 m → Wanted n words xs classes 3 c → Wanted n words xs classes 4 x
+      → text ≡ textLine 74 (fields (n ∷ length gs ∷ length xs ∷ [])) ++ (s ++ (m ++ (c ++ x))) → Reports bytes text
+
+-- the text stands at the front of the bytes, and its length is told
+pub record WritesReport (bytes room values exit : List ℕ) : Type 0 where
+  pub text : List ℕ
+  pub reports : Reports bytes text
+  pub told : values ≡ length text ∷ []
+  pub front : exit ≡ text ++ drop (length text) room
+
+-- ---- the promised text is so
+
+fields-are : (xs : List ℕ) → each field xs ≡ fields xs
+unfolding each
+fields-are [] = refl
+fields-are (x ∷ xs) = ap (λ more. field x ++ more) (fields-are xs)
+
+last-of : (class : ℕ) → 1 ≤ class → (fs : List Fault) → Last class (firstTold fs) (firstText class fs)
+unfolding firstText shown
+last-of class lo [] = ok refl refl
+last-of class lo (f ∷ rest) = by-equal class 1
+    (λ e. stuck e _ _ _ _ refl (ap (each field) (choice-true (eq-eqb class 1 e) _ _) ∙ fields-are _))
+    (λ a. by-equal class 2
+    (λ e. gate e _ _ _ _ refl (ap (each field) (choice-false (ne-eqb class 1 a) _ _ ∙ choice-true (eq-eqb class 2 e) _ _) ∙ fields-are _))
+    (λ b. control (omega arith) _ _ _ _ refl
+    (ap (each field) (choice-false (ne-eqb class 1 a) _ _ ∙ choice-false (ne-eqb class 2 b) _ _) ∙ fields-are _)))
+
+module _ (n : ℕ) (words xs : List ℕ) (sound : Sound n words) where
+  class-line : (class : ℕ) → 1 ≤ class → ClassLine n words xs class (classText n (gatesOf words) xs class)
+  unfolding classText caughtOf left line letterOf
+  class-line class lo =
+      let gs : List Gate = gatesOf words in
+      let fs : List Fault = classFaults n gs class in
+      record {
+        number = length (caughtOf gs xs fs);
+        total = length fs;
+        shown = firstTold (left gs xs fs);
+        judged = judges n words xs class sound;
+        last = firstText class (left gs xs fs);
+        last-is = last-of class lo (left gs xs fs);
+        text-is = ap (λ l. textLine (letter class) (l ++ firstText class (left gs xs fs))) (fields-are (length (caughtOf gs xs fs) ∷ length fs ∷ []));
+      }
+
+  -- a class's part of the text
+  part : ℕ → ℕ → List ℕ
+  part classes class = choice (isWanted classes class) (classText n (gatesOf words) xs class) []
+
+  wanted-is : (classes class : ℕ) → 1 ≤ class → Wanted n words xs classes class (part classes class)
+  unfolding part isWanted
+  wanted-is classes class lo = by-test (isWanted classes class)
+      (λ t. subst (Wanted n words xs classes class) (sym (choice-true t _ [])) (wants (eqb-true _ 1 t) (class-line class lo)))
+      (λ t. subst (Wanted n words xs classes class) (sym (choice-false t _ [])) (wants-not (eqb-false _ 1 t) refl))
+
+  kept-part : (classes class : ℕ) (rest : List ℕ)
+      → each (classText n (gatesOf words) xs) (keep (isWanted classes) (class ∷ rest))
+      ≡ part classes class ++ each (classText n (gatesOf words) xs) (keep (isWanted classes) rest)
+  unfolding part keep each
+  kept-part classes class rest = by-test (isWanted classes class) (λ t. rw t) (λ t. rw t)
+
+  kept-last : (classes class : ℕ)
+      → each (classText n (gatesOf words) xs) (keep (isWanted classes) (class ∷ [])) ≡ part classes class
+  unfolding part keep each
+  kept-last classes class = by-test (isWanted classes class) (λ t. rw t (append-nil _)) (λ t. rw t)
+
+  parts : (classes : ℕ) → each (classText n (gatesOf words) xs) (wanted classes)
+      ≡ part classes 1 ++ (part classes 2 ++ (part classes 3 ++ part classes 4))
+  unfolding wanted upFrom
+  parts classes =
+      let p : ℕ → List ℕ = part classes in
+      kept-part classes 1 (2 ∷ 3 ∷ 4 ∷ [])
+      ∙ ap (λ l. p 1 ++ l) (kept-part classes 2 (3 ∷ 4 ∷ []) ∙ ap (λ l. p 2 ++ l) (kept-part classes 3 (4 ∷ []) ∙ ap (λ l. p 3 ++ l)
+      (kept-last classes 4)))
+
+-- a job that is read
+job-reports : (bytes : List ℕ) → fine ≡ firstOf (readRows bytes 3072 2048) fine
+    → Reports bytes (jobText (linesIn bytes) (classesIn bytes) (gateWords bytes) (vectorWords bytes))
+unfolding jobText line
+job-reports bytes unbroken =
+    let n : ℕ = linesIn bytes in
+    let k : ℕ = classesIn bytes in
+    let words : List ℕ = gateWords bytes in
+    let xs : List ℕ = vectorWords bytes in
+    let sound : Sound n words = held-set bytes 3072 2048 unbroken .set .circuit in
+    verdicts n k words xs (gatesOf words) (held-job bytes 3072 2048 unbroken) (held-image bytes 3072 2048 unbroken)
+    _ _ _ _
+    (wanted-is n words xs sound k 1 (omega arith)) (wanted-is n words xs sound k 2 (omega arith))
+    (wanted-is n words xs sound k 3 (omega arith)) (wanted-is n words xs sound k 4 (omega arith))
+    (ap₂ (λ f l. textLine 74 f ++ l) (fields-are (n ∷ length (gatesOf words) ∷ length xs ∷ [])) (parts n words xs sound k))
+
+reports-of : (bytes : List ℕ) → Reports bytes (reportText bytes)
+unfolding reportText refusedText line
+reports-of bytes = by-first (readRows bytes 3072 2048)
+    (λ unbroken. subst (λ t. Reports bytes (textOf t (jobText (linesIn bytes) (classesIn bytes) (gateWords bytes) (vectorWords bytes)))) unbroken
+    (job-reports bytes unbroken))
+    (λ k p first e. subst (λ t. Reports bytes (textOf t (jobText (linesIn bytes) (classesIn bytes) (gateWords bytes) (vectorWords bytes)))) (sym e)
+    (refuses k p first (ap (textLine 69) (fields-are (k ∷ p ∷ [])))))
+
+writes-report : (bytes room exit : List ℕ) → fine ≡ firstOf (reportRows bytes (length room)) fine
+    → exit ≡ after (reportRows bytes (length room)) (reportText bytes ++ drop (length (reportText bytes)) room) room
+    → WritesReport bytes room (length (reportText bytes) ∷ []) exit
+writes-report bytes room exit unbroken made = record {
+  text = reportText bytes;
+  reports = reports-of bytes;
+  told = refl;
+  front = made ∙ sym (after-fine (reportRows bytes (length room)) _ _ unbroken);
+}
+
+-- ---- the call
+
+pub report-means : Answers report.Post (λ κs. toldReported) (λ κs a values e. WritesReport (now (a .0)) (now (a .1 .0)) values (now (e .1 .0)))
+report-means = means refusing.report-refuses _ (λ κs a r e p. p .0) (λ κs a r e p u. writes-report _ _ _ u (p .1))
+
+pub report-in-c : AnswersInC c-report.Post (λ κs r. r .number) (λ κs r. r .count ∷ [])
+    (λ κs a values e. WritesReport (now (a .0)) (now (a .1 .0)) values (now (e .1 .0)))
+report-in-c = means-in-c 1 refusing-in-c.report-refuses _ (λ κs a r e p. p .0) (λ κs a r e p u. writes-report _ _ _ u (p .1))

@@ -1,0 +1,108 @@
+-- What the calls tell of the vectors of a set that catches every single stuck-at fault: caught, of each fault and each multiple fault that they take.
+use Prim.Native.Nat.{ℕ, _+_, _^_, _≤_, _<_}
+use mathlib.Core.Path.{_≡_, sym, ap, _∙_, subst}
+use mathlib.Core.Bool.{true}
+use mathlib.Core.List.{List, [], _∷_, List·Memᴰ}
+use lib.ListN.{length, take}
+use lib.Seq.{take-at}
+use Rattle.basics.specs.Choice.{count}
+use Rattle.basics.specs.Lists.{All}
+use Rattle.basics.proofs.Lists.{all-entry}
+use Rattle.refusals.specs.Tables.{Told, firstOf}
+use Rattle.refusals.specs.Tables.Told.{answered}
+use Rattle.refusals.specs.Checks.{fine}
+use Rattle.refusals.proofs.Tables.{fine-all}
+use Rattle.circuit.specs.Gates.{gatesOf}
+use Rattle.circuit.specs.declared.Gate.{Gate}
+use Rattle.simulator.specs.Faulty.{caught}
+use Rattle.faults.specs.Rules.{faultRows}
+use Rattle.simulator.specs.Rules.{catchRows}
+use Rattle.faults.specs.Records.{faultsOf}
+use Rattle.simulator.specs.Faulty.{caughtTogether}
+use Rattle.faults.specs.Multiple.{entriesRows}
+use Rattle.simulator.specs.Rules.{multipleRows}
+use Rattle.faults.specs.declared.Fault.{Fault}
+use Rattle.simulator.proofs.RuleLaws.{catch-ok}
+use Rattle.testsets.proofs.Multiple.{deepest, deepest-caught}
+use Rattle.demands.proofs.Machine.{Circuit, Has, Multiple}
+use Rattle.demands.proofs.MachineLaws.{circuit-ok, gates-flat}
+use Rattle.demands.proofs.HasLaws.{has-of, has-line, multiple-is}
+use Rattle.demands.proofs.FaultyLaws.{caught-means}
+use Rattle.demands.proofs.FaultLists.{Picks}
+use Rattle.demands.proofs.Sets.{MakesCompact}
+use Rattle.demands.proofs.Completeness.{EveryCaught}
+use Rattle.demands.proofs.Runs.{passes-too}
+
+module _ (n : ℕ) (words : List ℕ) (gs : List Gate) (circuit : Circuit n words gs) (set : List ℕ) (inputs : All (λ x. x < 2 ^ n) set)
+    (every : EveryCaught n gs 1 set) where
+  same-gates : gatesOf words ≡ gs
+  same-gates = ap gatesOf (circuit .lent) ∙ gates-flat gs
+
+  -- a fault of class 1 that is taken with any vector x is told as caught with some vector of the set
+  pub tells-single : (x : ℕ) (f : Fault) → fine ≡ firstOf (catchRows n words x f) fine → f .class ≡ 1
+      → (v : ℕ) × List·Memᴰ v set
+      × ((t : Told) → t ≡ firstOf (catchRows n words v f) (answered (count (caught (gatesOf words) f v) ∷ [])) → t ≡ answered (1 ∷ []))
+  unfolding catchRows
+  tells-single x f taken class =
+      let has : Has n gs f = subst (λ hs. Has n hs f) same-gates (has-of n (gatesOf words) f (catch-ok n words x f taken .fault)) in
+      let w = every f class has in
+      let v : ℕ = w .0 in
+      let is : caught (gatesOf words) f v ≡ true = ap (λ hs. caught hs f v) same-gates ∙ caught-means n gs f has v .1 (w .2) in
+      let passes = passes-too n words x v (faultRows n words f) taken (all-entry (λ y. y < 2 ^ n) (w .1) inputs) in
+      (v, w .1, λ t p. p ∙ sym (fine-all (catchRows n words v f) _ passes) ∙ ap (λ b. answered (count b ∷ [])) is)
+
+  -- it catches each multiple fault too: by a vector that catches an entry of its deepest level
+  multiple-caught : (fs : List Fault) → Multiple n gs fs → (v : ℕ) × List·Memᴰ v set × (caughtTogether gs fs v ≡ true)
+  multiple-caught fs multiple =
+      let deep = deepest fs (multiple .some) in
+      let m : Fault = deep .0 in
+      let is = all-entry (λ f. (f .class ≡ 1) × Has n gs f) (deep .1) (multiple .stuck) in
+      let w = every m (is .0) (is .1) in (
+        w .0,
+        w .1,
+        deepest-caught n gs (circuit-ok n words gs circuit) fs m (deep .1) (multiple .once) (deep .2) (has-line n gs m (is .1) (is .0)) (w .0)
+            (caught-means n gs m (is .1) (w .0) .1 (w .2)),
+      )
+
+  -- so one that is taken with any vector x is told as caught with some vector of the set
+  pub tells-multiple : (x : ℕ) (list : List ℕ) → fine ≡ firstOf (multipleRows n words x list) fine
+      → (v : ℕ) × List·Memᴰ v set
+      × ((t : Told) → t ≡ firstOf (multipleRows n words v list) (answered (count (caughtTogether (gatesOf words) (faultsOf list) v) ∷ []))
+      → t ≡ answered (1 ∷ []))
+  unfolding multipleRows
+  tells-multiple x list taken =
+      let w = multiple-caught (faultsOf list) (subst (λ hs. Multiple n hs (faultsOf list)) same-gates (multiple-is n words x list taken .1)) in
+      let v : ℕ = w .0 in
+      let is : caughtTogether (gatesOf words) (faultsOf list) v ≡ true = ap (λ hs. caughtTogether hs (faultsOf list) v) same-gates ∙ w .2 in
+      let passes = passes-too n words x v (entriesRows n words list) taken (all-entry (λ y. y < 2 ^ n) (w .1) inputs) in
+      (v, w .1, λ t p. p ∙ sym (fine-all (multipleRows n words v list) _ passes) ∙ ap (λ b. answered (count b ∷ [])) is)
+
+-- ---- the compact set, by what was told of it and what stands in the room: the front of the room is the set
+
+module _ (n : ℕ) (words room exit : List ℕ) (k : ℕ) (is : MakesCompact n words room (k ∷ []) exit) where
+  front : is .set ≡ take k exit
+  front =
+      let number : k ≡ length (is .set) = (let e = is .stands .told in cc) in
+      sym (ap (take k) (is .stands .front) ∙ take-at (is .set) _ k (sym number))
+
+  pub compact-single : (x : ℕ) (f : Fault) → fine ≡ firstOf (catchRows n words x f) fine → f .class ≡ 1
+      → (v : ℕ) × List·Memᴰ v (take k exit)
+      × ((t : Told) → t ≡ firstOf (catchRows n words v f) (answered (count (caught (gatesOf words) f v) ∷ [])) → t ≡ answered (1 ∷ []))
+  compact-single x f taken class =
+      let w = tells-single n words (is .gs) (is .circuit) (is .set) (is .stands .inputs) (is .stands .catches-all) x f taken class in
+      (w .0, subst (List·Memᴰ (w .0)) front (w .1), w .2)
+
+  pub compact-multiple : (x : ℕ) (list : List ℕ) → fine ≡ firstOf (multipleRows n words x list) fine
+      → (v : ℕ) × List·Memᴰ v (take k exit)
+      × ((t : Told) → t ≡ firstOf (multipleRows n words v list) (answered (count (caughtTogether (gatesOf words) (faultsOf list) v) ∷ []))
+      → t ≡ answered (1 ∷ []))
+  compact-multiple x list taken =
+      let w = tells-multiple n words (is .gs) (is .circuit) (is .set) (is .stands .inputs) (is .stands .catches-all) x list taken in
+      (w .0, subst (List·Memᴰ (w .0)) front (w .1), w .2)
+
+  -- at most 2 + floor(log2 S) vectors, and each picked by the rule
+  pub compact-few : k ≤ 2 + is .log
+  compact-few = let e = is .stands .told in let number : k ≡ length (is .set) = cc in subst (λ m. m ≤ 2 + is .log) (sym number) (is .few)
+
+  pub compact-picks : Picks n (is .gs) (is .faults) (take k exit)
+  compact-picks = subst (Picks n (is .gs) (is .faults)) front (is .picked)
