@@ -3,7 +3,7 @@
 ghost use mathlib.Core.Path.{_≡_};
 ghost use mathlib.Core.List.{[], _∷_};
 ghost use Rattle.refusals.specs.Tables.Told.{answered, refused};
-ghost use Rattle.circuit.specs.Answers.{told};
+ghost use Rattle.circuit.specs.Answers.{toldRan};
 ghost use Rattle.simulator.specs.Answers as simulated;
 ghost use Rattle.simulator.specs.Answers.{toldCaught};
 ghost use Rattle.dropping.specs.Answers.{toldDropped};
@@ -51,7 +51,7 @@ pub struct Count {
 
 // A run.
 pub fn run_of(ran: Ran) -> Run
-    ensures { λ r. ⌜ (r .number ∷ r .place ∷ r .state ∷ []) ≡ fields 1 (told ran) ⌝ }
+    ensures { λ r. ⌜ (r .number ∷ r .place ∷ r .state ∷ []) ≡ fields 1 (toldRan ran) ⌝ }
 {
     match ran {
         Ran::State(state) => Run {

@@ -11,14 +11,13 @@ use Rattle.basics.proofs.All.{all-map}
 use Rattle.refusals.specs.Tables.{firstOf}
 use Rattle.refusals.specs.Checks.{fine}
 use Rattle.circuit.specs.Gates.{gatesOf}
-use Rattle.circuit.specs.Answers.{told}
 use Rattle.circuit.specs.declared.Gate.{Gate}
 use Rattle.simulator.specs.Faulty.{faulty, caught}
 use Rattle.simulator.specs.Rules.{catchRows}
 use Rattle.faults.specs.Records.{faultsOf}
 use Rattle.simulator.specs.Faulty.{caughtTogether}
 use Rattle.simulator.specs.Rules.{multipleRows}
-use Rattle.simulator.specs.Answers.{toldCaught}
+use Rattle.simulator.specs.Answers.{toldOutput, toldCaught}
 use Rattle.faults.specs.declared.Fault.{Fault}
 use Rattle.simulator.proofs.RuleLaws.{catch-ok, multiple-ok}
 use Rattle.simulator.proofs.faulty_run.Reads as faulty-run
@@ -122,7 +121,7 @@ module _ (n : ℕ) (words : List ℕ) (x : ℕ) where
 
 -- ---- the calls
 
-pub faulty-run-means : Answers faulty-run.Post (λ κs. told)
+pub faulty-run-means : Answers faulty-run.Post (λ κs. toldOutput)
     (λ κs a values e. GivesFaulty (a .0) (now (a .1 .0)) (a .1 .1 .0) (a .1 .1 .1 .0) values)
 faulty-run-means = means refusing.faulty-run-refuses _ (λ κs a r e p. p) (λ κs a r e p u. gives-faulty _ _ _ _ u)
 

@@ -5,14 +5,14 @@ use mathlib.Core.List.{[], _∷_, _++_}
 use lib.ListN.{length}
 use denote.Ref.{now}
 use Rattle.circuit.specs.Rules.{circuitSetRows, circuitRows, setRows, vectorRows, levelRows, runRows}
-use Rattle.circuit.specs.Answers.{told}
+use Rattle.circuit.specs.Answers.{toldRan}
 use Rattle.circuit.proofs.forward.Reads as forward
 use Rattle.circuit.proofs.backward.Reads as backward
 use Rattle.faults.specs.Rules.{faultRows}
 use Rattle.simulator.specs.Rules.{catchRows, testRows}
 use Rattle.faults.specs.Multiple.{entriesRows}
 use Rattle.simulator.specs.Rules.{multipleRows}
-use Rattle.simulator.specs.Answers.{toldCaught, toldMade}
+use Rattle.simulator.specs.Answers.{toldOutput, toldCaught, toldMade}
 use Rattle.simulator.proofs.faulty_run.Reads as faulty-run
 use Rattle.simulator.proofs.catches.Reads as catches
 use Rattle.simulator.proofs.catches_multiple.Reads as catches-multiple
@@ -45,20 +45,20 @@ use Rattle.demands.proofs.Refusing.{in-turn, Refuses, Leaves, refusal-l
 -- ---- the calls, each with its table and the numbers of its rules in the order in which they are checked
 
 -- circuit
-pub forward-refuses : Refuses forward.Post (λ κs. told)
+pub forward-refuses : Refuses forward.Post (λ κs. toldRan)
     (λ κs a. runRows (a .0) (now (a .1 .0)) (a .1 .1 .0) (a .1 .1 .1 .0))
     (3 ∷ 5 ∷ 7 ∷ 8 ∷ 12 ∷ [])
 unfolding runRows levelRows circuitSetRows circuitRows vectorRows
 forward-refuses = record { its-numbers = λ κs a. refl; in-order = in-turn _ _ refl; exact = λ κs a r e p. (_, exactly _ _ _ p) }
 
-pub backward-refuses : Refuses backward.Post (λ κs. told)
+pub backward-refuses : Refuses backward.Post (λ κs. toldRan)
     (λ κs a. runRows (a .0) (now (a .1 .0)) (a .1 .1 .0) (a .1 .1 .1 .0))
     (3 ∷ 5 ∷ 7 ∷ 8 ∷ 12 ∷ [])
 unfolding runRows levelRows circuitSetRows circuitRows vectorRows
 backward-refuses = record { its-numbers = λ κs a. refl; in-order = in-turn _ _ refl; exact = λ κs a r e p. (_, exactly _ _ _ p) }
 
 -- simulator
-pub faulty-run-refuses : Refuses faulty-run.Post (λ κs. told)
+pub faulty-run-refuses : Refuses faulty-run.Post (λ κs. toldOutput)
     (λ κs a. catchRows (a .0) (now (a .1 .0)) (a .1 .1 .0) (a .1 .1 .1 .0))
     (3 ∷ 5 ∷ 7 ∷ 8 ∷ 9 ∷ [])
 unfolding catchRows faultRows circuitSetRows circuitRows vectorRows

@@ -14,7 +14,7 @@ use Rattle.words.specs.Word.{bit}
 use Rattle.words.proofs.Bits.{word-ext-all}
 use Rattle.refusals.specs.Tables.{Told}
 use Rattle.refusals.specs.Tables.Told.{answered}
-use Rattle.circuit.specs.Answers.{told}
+use Rattle.circuit.specs.Answers.{toldRan}
 use Rattle.circuit.specs.declared.Gate.{Gate}
 use Rattle.circuit.proofs.forward.Reads as forward
 use Rattle.circuit.proofs.backward.Reads as backward
@@ -66,7 +66,7 @@ module _ (g : Gate) (s t : ℕ) (made : Makes g s t) where
 
 -- ---- levels, by runs of one circuit and input
 
-pub level-0-is-input : (call : Ended forward.Post) → call .inputs .1 .1 .0 ≡ 0 → (s : ℕ) → told (call .result) ≡ answered (s ∷ [])
+pub level-0-is-input : (call : Ended forward.Post) → call .inputs .1 .1 .0 ≡ 0 → (s : ℕ) → toldRan (call .result) ≡ answered (s ∷ [])
     → s ≡ call .inputs .1 .1 .1 .0
 level-0-is-input call zero s t =
     level-none (subst (λ i. RunsForward (call .inputs .0) (now (call .inputs .1 .0)) i (call .inputs .1 .1 .1 .0) (s ∷ [])) zero
@@ -76,7 +76,7 @@ level-0-is-input call zero s t =
 pub gate-makes-level : (low high : Ended forward.Post)
     → (low .inputs .0 ≡ high .inputs .0) × (now (low .inputs .1 .0) ≡ now (high .inputs .1 .0))
     × (suc (low .inputs .1 .1 .0) ≡ high .inputs .1 .1 .0) × (low .inputs .1 .1 .1 .0 ≡ high .inputs .1 .1 .1 .0)
-    → (s t : ℕ) → told (low .result) ≡ answered (s ∷ []) → told (high .result) ≡ answered (t ∷ [])
+    → (s t : ℕ) → toldRan (low .result) ≡ answered (s ∷ []) → toldRan (high .result) ≡ answered (t ∷ [])
     → (gs : List Gate) × Circuit (low .inputs .0) (now (low .inputs .1 .0)) gs × (suc (low .inputs .1 .1 .0) ≤ length gs)
     × Makes (gate gs (suc (low .inputs .1 .1 .0))) s t
 gate-makes-level low high same s t e f =
@@ -89,20 +89,20 @@ gate-makes-level low high same s t e f =
 pub backward-after-forward : (first : Ended forward.Post) (second : Ended backward.Post)
     → (first .inputs .0 ≡ second .inputs .0) × (now (first .inputs .1 .0) ≡ now (second .inputs .1 .0))
     × (first .inputs .1 .1 .0 ≡ second .inputs .1 .1 .0)
-    → told (first .result) ≡ answered (second .inputs .1 .1 .1 .0 ∷ []) → told (second .result) ≡ answered (first .inputs .1 .1 .1 .0 ∷ [])
+    → toldRan (first .result) ≡ answered (second .inputs .1 .1 .1 .0 ∷ []) → toldRan (second .result) ≡ answered (first .inputs .1 .1 .1 .0 ∷ [])
 backward-after-forward first second same state =
     let q = second .promised in
     back-again (first .inputs .0) (now (first .inputs .1 .0)) (first .inputs .1 .1 .0) (first .inputs .1 .1 .1 .0) (second .inputs .1 .1 .1 .0)
-    (told (first .result)) (told (second .result)) (first .promised) state cc
+    (toldRan (first .result)) (toldRan (second .result)) (first .promised) state cc
 
 pub forward-after-backward : (first : Ended backward.Post) (second : Ended forward.Post)
     → (first .inputs .0 ≡ second .inputs .0) × (now (first .inputs .1 .0) ≡ now (second .inputs .1 .0))
     × (first .inputs .1 .1 .0 ≡ second .inputs .1 .1 .0)
-    → told (first .result) ≡ answered (second .inputs .1 .1 .1 .0 ∷ []) → told (second .result) ≡ answered (first .inputs .1 .1 .1 .0 ∷ [])
+    → toldRan (first .result) ≡ answered (second .inputs .1 .1 .1 .0 ∷ []) → toldRan (second .result) ≡ answered (first .inputs .1 .1 .1 .0 ∷ [])
 forward-after-backward first second same state =
     let q = second .promised in
     forth-again (first .inputs .0) (now (first .inputs .1 .0)) (first .inputs .1 .1 .0) (first .inputs .1 .1 .1 .0) (second .inputs .1 .1 .1 .0)
-    (told (first .result)) (told (second .result)) (first .promised) state cc
+    (toldRan (first .result)) (toldRan (second .result)) (first .promised) state cc
 
 -- the same in C: a number that is 0, and the state
 abbrev structTells : Run → Told

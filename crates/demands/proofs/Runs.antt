@@ -13,7 +13,7 @@ use Rattle.circuit.specs.Gates.{gatesOf, gateAt, noGate}
 use Rattle.circuit.specs.Runs.{step, run, forward, backward}
 use Rattle.circuit.specs.Rules.{circuitRows, vectorRows, levelRows, runRows}
 use Rattle.circuit.specs.Sound.{AllOk}
-use Rattle.circuit.specs.Answers.{told}
+use Rattle.circuit.specs.Answers.{toldRan}
 use Rattle.circuit.specs.declared.Gate.{Gate}
 use Rattle.circuit.proofs.RuleLaws.{RunOk, run-ok}
 use Rattle.circuit.proofs.RunLaws.{forward-lt, backward-lt, forward-backward, backward-forward, level-step, suc-sub-one}
@@ -84,11 +84,11 @@ module _ (n : ℕ) (words : List ℕ) (level state : ℕ) (unbroken : fine ≡ f
 
 -- ---- the calls
 
-pub forward-means : Answers forward-call.Post (λ κs. told)
+pub forward-means : Answers forward-call.Post (λ κs. toldRan)
     (λ κs a values e. RunsForward (a .0) (now (a .1 .0)) (a .1 .1 .0) (a .1 .1 .1 .0) values)
 forward-means = means refusing.forward-refuses _ (λ κs a r e p. p) (λ κs a r e p u. runs-forward _ _ _ _ u)
 
-pub backward-means : Answers backward-call.Post (λ κs. told)
+pub backward-means : Answers backward-call.Post (λ κs. toldRan)
     (λ κs a values e. RunsBackward (a .0) (now (a .1 .0)) (a .1 .1 .0) (a .1 .1 .1 .0) values)
 backward-means = means refusing.backward-refuses _ (λ κs a r e p. p) (λ κs a r e p u. runs-backward _ _ _ _ u)
 

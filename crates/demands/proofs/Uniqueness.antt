@@ -13,12 +13,12 @@ use Rattle.refusals.specs.declared.Checked.the-variants.{Fine, Wrong}
 use Rattle.refusals.proofs.Tables.{told-refusal}
 use Rattle.refusals.proofs.unless.Reads as unless
 use Rattle.refusals.proofs.in_word.Reads as in-word
-use Rattle.circuit.specs.Answers.{told}
-use Rattle.circuit.proofs.AnswerLaws.{told-one}
+use Rattle.circuit.specs.Answers.{toldRan}
+use Rattle.circuit.proofs.AnswerLaws.{told-ran-one}
 use Rattle.circuit.proofs.forward.Reads as forward
 use Rattle.circuit.proofs.backward.Reads as backward
-use Rattle.simulator.specs.Answers.{toldCaught, toldMade}
-use Rattle.simulator.proofs.AnswerLaws.{told-caught-one, told-made-one}
+use Rattle.simulator.specs.Answers.{toldOutput, toldCaught, toldMade}
+use Rattle.simulator.proofs.AnswerLaws.{told-output-one, told-caught-one, told-made-one}
 use Rattle.simulator.proofs.faulty_run.Reads as faulty-run
 use Rattle.simulator.proofs.catches.Reads as catches
 use Rattle.simulator.proofs.catches_multiple.Reads as catches-multiple
@@ -103,16 +103,16 @@ in-word-one κs a b equal r s e f p q = same p cc
 -- circuit
 pub forward-one : OneResult forward.Post
     (λ κs a b. (a .0 ≡ b .0) × (now (a .1 .0) ≡ now (b .1 .0)) × (a .1 .1 .0 ≡ b .1 .1 .0) × (a .1 .1 .1 .0 ≡ b .1 .1 .1 .0))
-forward-one κs a b equal r s e f p q = one told told-one r s p cc
+forward-one κs a b equal r s e f p q = one toldRan told-ran-one r s p cc
 
 pub backward-one : OneResult backward.Post
     (λ κs a b. (a .0 ≡ b .0) × (now (a .1 .0) ≡ now (b .1 .0)) × (a .1 .1 .0 ≡ b .1 .1 .0) × (a .1 .1 .1 .0 ≡ b .1 .1 .1 .0))
-backward-one κs a b equal r s e f p q = one told told-one r s p cc
+backward-one κs a b equal r s e f p q = one toldRan told-ran-one r s p cc
 
 -- simulator
 pub faulty-run-one : OneResult faulty-run.Post
     (λ κs a b. (a .0 ≡ b .0) × (now (a .1 .0) ≡ now (b .1 .0)) × (a .1 .1 .0 ≡ b .1 .1 .0) × (a .1 .1 .1 .0 ≡ b .1 .1 .1 .0))
-faulty-run-one κs a b equal r s e f p q = one told told-one r s p cc
+faulty-run-one κs a b equal r s e f p q = one toldOutput told-output-one r s p cc
 
 pub catches-one : OneResult catches.Post
     (λ κs a b. (a .0 ≡ b .0) × (now (a .1 .0) ≡ now (b .1 .0)) × (a .1 .1 .0 ≡ b .1 .1 .0) × (a .1 .1 .1 .0 ≡ b .1 .1 .1 .0))

@@ -17,13 +17,13 @@ use Rattle.dropping.specs.Rules.{dropRows, dropRecordsRows}
 abbrev pub dropTells : ℕ → List ℕ → ℕ → List ℕ → Told
 dropTells n words x list = firstOf (dropRows n words x list) (answered (inWord (length (uncaught (gatesOf words) x (faultsOf list))) ∷ []))
 
-abbrev pub listAfterDrop : ℕ → List ℕ → ℕ → List ℕ → List ℕ
-listAfterDrop n words x list = after (dropRows n words x list) (wordsOf (dropped (gatesOf words) x (faultsOf list))) list
+abbrev pub dropLeaves : ℕ → List ℕ → ℕ → List ℕ → List ℕ
+dropLeaves n words x list = after (dropRows n words x list) (wordsOf (dropped (gatesOf words) x (faultsOf list))) list
 
 -- ---- a slice of records
 
 abbrev pub dropRecordsTells : ℕ → List ℕ → ℕ → List Fault → Told
 dropRecordsTells n words x fs = firstOf (dropRecordsRows n words x fs) (answered (inWord (length (uncaught (gatesOf words) x fs)) ∷ []))
 
-abbrev pub recordsAfterDrop : ℕ → List ℕ → ℕ → List Fault → List Fault
-recordsAfterDrop n words x fs = after (dropRecordsRows n words x fs) (dropped (gatesOf words) x fs) fs
+abbrev pub dropRecordsLeaves : ℕ → List ℕ → ℕ → List Fault → List Fault
+dropRecordsLeaves n words x fs = after (dropRecordsRows n words x fs) (dropped (gatesOf words) x fs) fs

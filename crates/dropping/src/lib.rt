@@ -1,7 +1,7 @@
 // Dropping: a lent list of fault records loses the faults that a vector catches.
 ghost use mathlib.Core.Path.{_≡_};
 ghost use Rattle.refusals.specs.Places.{inWord};
-ghost use Rattle.dropping.specs.Promises.{dropTells, listAfterDrop, dropRecordsTells, recordsAfterDrop};
+ghost use Rattle.dropping.specs.Promises.{dropTells, dropLeaves, dropRecordsTells, dropRecordsLeaves};
 ghost use Rattle.dropping.specs.Answers.{toldDropped, isWrong, answerTo};
 use crate::checked::uncaught_records_to_front;
 use crate::checked::uncaught_to_front;
@@ -25,7 +25,7 @@ pub enum Dropped {
 // A plain list, four numbers a record.
 pub fn drop(lines: u32, gates: &[u32], vector: u32, list: &mut [u32]) -> Dropped
     ensures { λ r. ⌜ (toldDropped r ≡ dropTells lines (now (gates .entry)) vector (now (list .entry)))
-        × (now (list .exit) ≡ listAfterDrop lines (now (gates .entry)) vector (now (list .entry))) ⌝ }
+        × (now (list .exit) ≡ dropLeaves lines (now (gates .entry)) vector (now (list .entry))) ⌝ }
 {
     match check_drop(lines, gates, vector, list) {
         Checked::Wrong(refusal) => Dropped::Refused(refusal),
@@ -41,7 +41,7 @@ pub fn drop(lines: u32, gates: &[u32], vector: u32, list: &mut [u32]) -> Dropped
 // A slice of records.
 pub fn drop_records(lines: u32, gates: &[u32], vector: u32, list: &mut [Fault]) -> Dropped
     ensures { λ r. ⌜ (toldDropped r ≡ dropRecordsTells lines (now (gates .entry)) vector (now (list .entry)))
-        × (now (list .exit) ≡ recordsAfterDrop lines (now (gates .entry)) vector (now (list .entry))) ⌝ }
+        × (now (list .exit) ≡ dropRecordsLeaves lines (now (gates .entry)) vector (now (list .entry))) ⌝ }
 {
     let first = check_vector(lines, gates, vector);
     if is_wrong(first) {

@@ -16,11 +16,11 @@ readTells bytes gates vectors = firstOf (readRows bytes (length gates) (length v
     (answered (linesIn bytes ∷ classesIn bytes ∷ gatesIn bytes ∷ vectorsIn bytes ∷ []))
 
 -- the gates in front of the first list, the vectors in front of the second
-abbrev pub gatesAfterRead : List ℕ → List ℕ → List ℕ → List ℕ
-gatesAfterRead bytes gates vectors = after (readRows bytes (length gates) (length vectors)) (onto (gateWords bytes) gates) gates
+abbrev pub readLeavesGates : List ℕ → List ℕ → List ℕ → List ℕ
+readLeavesGates bytes gates vectors = after (readRows bytes (length gates) (length vectors)) (onto (gateWords bytes) gates) gates
 
-abbrev pub vectorsAfterRead : List ℕ → List ℕ → List ℕ → List ℕ
-vectorsAfterRead bytes gates vectors =
+abbrev pub readLeavesVectors : List ℕ → List ℕ → List ℕ → List ℕ
+readLeavesVectors bytes gates vectors =
     after (readRows bytes (length gates) (length vectors)) (onto (vectorWords bytes) vectors) vectors
 
 -- ---- writing: lines, classes, gates and vectors, and the bytes that the room held
@@ -30,5 +30,5 @@ abbrev pub writeTells : ℕ → ℕ → List ℕ → List ℕ → List ℕ → T
 writeTells n classes words xs room = firstOf (writeRows n classes words xs (length room)) (answered (length (image n classes words xs) ∷ []))
 
 -- the image in front
-abbrev pub roomAfterWrite : ℕ → ℕ → List ℕ → List ℕ → List ℕ → List ℕ
-roomAfterWrite n classes words xs room = after (writeRows n classes words xs (length room)) (onto (image n classes words xs) room) room
+abbrev pub writeLeaves : ℕ → ℕ → List ℕ → List ℕ → List ℕ → List ℕ
+writeLeaves n classes words xs room = after (writeRows n classes words xs (length room)) (onto (image n classes words xs) room) room

@@ -3,7 +3,7 @@ ghost use mathlib.Core.Path.{_≡_};
 ghost use Prim.Native.Nat.{_*_, _≤_};
 ghost use lib.ListN.{length};
 ghost use Rattle.circuit.specs.Limits.{mostGates, mostVectors};
-ghost use Rattle.job.specs.Promises.{readTells, gatesAfterRead, vectorsAfterRead, writeTells, roomAfterWrite};
+ghost use Rattle.job.specs.Promises.{readTells, readLeavesGates, readLeavesVectors, writeTells, writeLeaves};
 ghost use Rattle.job.specs.Answers.{toldRead, toldWritten};
 use circuit::limits::GATE_WORDS;
 use circuit::limits::MOST_VECTORS;
@@ -38,8 +38,8 @@ pub enum Written {
 // A job out of bytes, into the fronts of two lists. A refused call changes nothing.
 pub fn read_job(bytes: &[u8], gates: &mut [u32], vectors: &mut [u32]) -> Read
     ensures { λ r. ⌜ (toldRead r ≡ readTells (now (bytes .entry)) (now (gates .entry)) (now (vectors .entry)))
-        × ((now (gates .exit) ≡ gatesAfterRead (now (bytes .entry)) (now (gates .entry)) (now (vectors .entry)))
-        × (now (vectors .exit) ≡ vectorsAfterRead (now (bytes .entry)) (now (gates .entry)) (now (vectors .entry)))) ⌝ }
+        × ((now (gates .exit) ≡ readLeavesGates (now (bytes .entry)) (now (gates .entry)) (now (vectors .entry)))
+        × (now (vectors .exit) ≡ readLeavesVectors (now (bytes .entry)) (now (gates .entry)) (now (vectors .entry)))) ⌝ }
 {
     let mut own_gates = [0u32; GATE_WORDS];
     let mut own_vectors = [0u32; MOST_VECTORS];
@@ -56,8 +56,8 @@ fn read_by_own(
 ) -> Read
     requires { ⌜ (3 * mostGates ≤ length (now «own_gates»)) × (mostVectors ≤ length (now «own_vectors»)) ⌝ }
     ensures { λ r. ⌜ (toldRead r ≡ readTells (now (bytes .entry)) (now (gates .entry)) (now (vectors .entry)))
-        × ((now (gates .exit) ≡ gatesAfterRead (now (bytes .entry)) (now (gates .entry)) (now (vectors .entry)))
-        × (now (vectors .exit) ≡ vectorsAfterRead (now (bytes .entry)) (now (gates .entry)) (now (vectors .entry)))) ⌝ }
+        × ((now (gates .exit) ≡ readLeavesGates (now (bytes .entry)) (now (gates .entry)) (now (vectors .entry)))
+        × (now (vectors .exit) ≡ readLeavesVectors (now (bytes .entry)) (now (gates .entry)) (now (vectors .entry)))) ⌝ }
 {
     let words = gates.len();
     let count = vectors.len();
@@ -76,7 +76,7 @@ pub fn write_job(
     out: &mut [u8],
 ) -> Written
     ensures { λ r. ⌜ (toldWritten r ≡ writeTells lines classes (now (gates .entry)) (now (vectors .entry)) (now (out .entry)))
-        × (now (out .exit) ≡ roomAfterWrite lines classes (now (gates .entry)) (now (vectors .entry)) (now (out .entry))) ⌝ }
+        × (now (out .exit) ≡ writeLeaves lines classes (now (gates .entry)) (now (vectors .entry)) (now (out .entry))) ⌝ }
 {
     match rules::check_write(lines, classes, gates, vectors, out.len()) {
         Checked::Wrong(refusal) => Written::Refused(refusal),

@@ -1,11 +1,7 @@
 // Judging for C: the verdict on a set, straight and by way of a coverage.
 ghost use mathlib.Core.Path.{_≡_};
 ghost use mathlib.Core.List.{[], _∷_};
-ghost use Rattle.refusals.specs.Tables.{firstOf};
-ghost use Rattle.circuit.specs.Gates.{gatesOf};
-ghost use Rattle.faults.specs.Classes.{classFaults};
-ghost use Rattle.judge.specs.Judging.{caughtBySome, verdict};
-ghost use Rattle.judge.specs.Rules.{judgeRows};
+ghost use Rattle.judge.specs.Promises.{judgeTells};
 ghost use Rattle.answers.specs.Fields.{fields};
 use answers::verdicts::Judgement;
 use answers::verdicts::judgement_of;
@@ -14,9 +10,8 @@ use answers::verdicts::judgement_of;
 #[no_mangle]
 pub extern "C" fn nuf_judge(lines: u32, gates: &[u32], vectors: &[u32], class: u32) -> Judgement
     ensures { λ r. ⌜ (r .number ∷ r .place ∷ r .caught ∷ r .total ∷ r .complete
-        ∷ r .first .class ∷ r .first .place ∷ r .first .line ∷ r .first .value ∷ []) ≡ fields 7 (firstOf
-        (judgeRows lines (now (gates .entry)) (now (vectors .entry)) class)
-        (verdict (caughtBySome (gatesOf (now (gates .entry))) (now (vectors .entry))) (classFaults lines (gatesOf (now (gates .entry))) class))) ⌝ }
+        ∷ r .first .class ∷ r .first .place ∷ r .first .line ∷ r .first .value ∷ []) ≡ fields 7
+        (judgeTells lines (now (gates .entry)) (now (vectors .entry)) class) ⌝ }
 {
     judgement_of(judge::judge(lines, gates, vectors, class))
 }
@@ -25,9 +20,8 @@ pub extern "C" fn nuf_judge(lines: u32, gates: &[u32], vectors: &[u32], class: u
 #[no_mangle]
 pub extern "C" fn nuf_cover(lines: u32, gates: &[u32], vectors: &[u32], class: u32) -> Judgement
     ensures { λ r. ⌜ (r .number ∷ r .place ∷ r .caught ∷ r .total ∷ r .complete
-        ∷ r .first .class ∷ r .first .place ∷ r .first .line ∷ r .first .value ∷ []) ≡ fields 7 (firstOf
-        (judgeRows lines (now (gates .entry)) (now (vectors .entry)) class)
-        (verdict (caughtBySome (gatesOf (now (gates .entry))) (now (vectors .entry))) (classFaults lines (gatesOf (now (gates .entry))) class))) ⌝ }
+        ∷ r .first .class ∷ r .first .place ∷ r .first .line ∷ r .first .value ∷ []) ≡ fields 7
+        (judgeTells lines (now (gates .entry)) (now (vectors .entry)) class) ⌝ }
 {
     judgement_of(judge::covering::cover(lines, gates, vectors, class))
 }

@@ -17,7 +17,7 @@ use Rattle.circuit.specs.Sound.{Sound}
 use Rattle.circuit.proofs.GateLaws.{gates-count}
 use Rattle.circuit.proofs.RuleLaws.{VectorsOk}
 use Rattle.job.specs.Image.{linesIn, classesIn, gatesIn, vectorsIn, gateWords, vectorWords}
-use Rattle.job.specs.Promises.{readTells, gatesAfterRead, vectorsAfterRead}
+use Rattle.job.specs.Promises.{readTells, readLeavesGates, readLeavesVectors}
 use Rattle.job.specs.Answers.{toldRead}
 use Rattle.job.specs.declared.Read.{Read}
 use Rattle.job.specs.declared.Read.the-variants.{Job}
@@ -29,7 +29,7 @@ use Rattle.job.proofs.ReadLaws.{read-ok, read-set}
 use Rattle.report_text.specs.Lines.{spaced, line}
 use Rattle.report_text.specs.Report.{jobLine, classLines, jobText, refusedText, jobRows, textOf, reportText, longestReport}
 use Rattle.report_text.specs.Rules.{reportRows}
-use Rattle.report_text.specs.Promises.{reportTells, roomAfterReport}
+use Rattle.report_text.specs.Promises.{reportTells, reportLeaves}
 use Rattle.report_text.specs.Parts.{okText, numbersLine}
 use Rattle.report_text.proofs.LengthLaws.{job-fits, refused-fits}
 
@@ -84,7 +84,7 @@ pub record JobRead (bytes gates vectors : List ℕ) (n k d m : ℕ) : Type 0 whe
 -- what the call's promise says of a job that it answers
 pub job-read : (r : Read) (bytes oldGates oldVectors gates vectors : List ℕ) (n k d m : ℕ) → r ≡ Job n k d m
     → (toldRead r ≡ readTells bytes oldGates oldVectors)
-    × ((gates ≡ gatesAfterRead bytes oldGates oldVectors) × (vectors ≡ vectorsAfterRead bytes oldGates oldVectors))
+    × ((gates ≡ readLeavesGates bytes oldGates oldVectors) × (vectors ≡ readLeavesVectors bytes oldGates oldVectors))
     → length oldGates ≡ 3 * mostGates → length oldVectors ≡ mostVectors → JobRead bytes gates vectors n k d m
 job-read r bytes oldGates oldVectors gates vectors n k d m is promise p q =
     let rows = readRows bytes (length oldGates) (length oldVectors) in
@@ -141,12 +141,12 @@ text-end bytes last end e f =
     )
 
 module _ (bytes out : List ℕ) (end : ℕ) (is : end ≡ length (reportText bytes)) where
-  pub report-short : length out < end → (refused 10 0 ≡ reportTells bytes out) × (out ≡ roomAfterReport bytes out)
+  pub report-short : length out < end → (refused 10 0 ≡ reportTells bytes out) × (out ≡ reportLeaves bytes out)
   unfolding reportRows
   report-short h = rw (lt-ltb (length out) (length (reportText bytes)) (omega arith)) (refl, refl)
 
   pub report-put : end ≤ length out → (last : List ℕ) → last ≡ sets out 0 (reportText bytes)
-      → (answered (end ∷ []) ≡ reportTells bytes out) × (last ≡ roomAfterReport bytes out)
+      → (answered (end ∷ []) ≡ reportTells bytes out) × (last ≡ reportLeaves bytes out)
   unfolding reportRows
   report-put h last e =
       rw (le-ltb (length out) (length (reportText bytes)) (omega arith))

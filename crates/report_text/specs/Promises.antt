@@ -13,5 +13,5 @@ abbrev pub reportTells : List ℕ → List ℕ → Told
 reportTells bytes room = firstOf (reportRows bytes (length room)) (answered (length (reportText bytes) ∷ []))
 
 -- the text in front
-abbrev pub roomAfterReport : List ℕ → List ℕ → List ℕ
-roomAfterReport bytes room = after (reportRows bytes (length room)) (onto (reportText bytes) room) room
+abbrev pub reportLeaves : List ℕ → List ℕ → List ℕ
+reportLeaves bytes room = after (reportRows bytes (length room)) (onto (reportText bytes) room) room

@@ -7,7 +7,7 @@ ghost use Rattle.basics.specs.Lists.{All};
 ghost use Rattle.circuit.specs.Limits.{mostVectors};
 ghost use Rattle.circuit.specs.Sound.{Sound};
 ghost use Rattle.report_text.specs.Report.{reportText, refusedText, jobText};
-ghost use Rattle.report_text.specs.Promises.{reportTells, roomAfterReport};
+ghost use Rattle.report_text.specs.Promises.{reportTells, reportLeaves};
 ghost use Rattle.report_text.specs.Answers.{toldReported};
 use crate::classes::put_classes;
 use crate::limits::LONGEST_REPORT;
@@ -31,7 +31,7 @@ pub enum Reported {
 // The text of a job's report into the front of some bytes. A refused call changes nothing; a refused job is a text.
 pub fn report(bytes: &[u8], out: &mut [u8]) -> Reported
     ensures { λ r. ⌜ (toldReported r ≡ reportTells (now (bytes .entry)) (now (out .entry)))
-        × (now (out .exit) ≡ roomAfterReport (now (bytes .entry)) (now (out .entry))) ⌝ }
+        × (now (out .exit) ≡ reportLeaves (now (bytes .entry)) (now (out .entry))) ⌝ }
 {
     let mut text = [0u8; LONGEST_REPORT];
     let end = put_report(bytes, &mut text);

@@ -1,4 +1,4 @@
--- `nufsadeem::answers::catch_of` meets its contract: in each case the fields are those of what is told. Assumes nothing.
+-- `answers::catch_of` meets its contract: in each case the fields are those of what is told. Assumes nothing.
 use mathlib.Core.Path.{ap, sym}
 use Rattle.simulator.specs.Answers.{toldCaught}
 use Rattle.answers.specs.Fields.{fields}

@@ -1,4 +1,4 @@
--- `nufsadeem::answers::left_of` meets its contract: in each case the fields are those of what is told. Assumes nothing.
+-- `answers::left_of` meets its contract: in each case the fields are those of what is told. Assumes nothing.
 use mathlib.Core.Path.{ap, sym, _∙_}
 use Rattle.dropping.specs.Answers.{toldDropped}
 use Rattle.answers.specs.Fields.{fields}

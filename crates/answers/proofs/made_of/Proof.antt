@@ -1,4 +1,4 @@
--- `nufsadeem::answers::made_of` meets its contract: in each case the fields are those of what is told. Assumes nothing.
+-- `answers::made_of` meets its contract: in each case the fields are those of what is told. Assumes nothing.
 use mathlib.Core.Path.{ap, sym, _∙_}
 use Rattle.testsets.specs.Answers.{toldMade}
 use Rattle.answers.specs.Fields.{fields}

@@ -1,4 +1,4 @@
--- `nufsadeem::answers::vector_of` meets its contract: in each case the fields are those of what is told. Assumes nothing.
+-- `answers::vector_of` meets its contract: in each case the fields are those of what is told. Assumes nothing.
 use mathlib.Core.Path.{ap, sym}
 use Rattle.simulator.specs.Answers.{toldMade}
 use Rattle.answers.specs.Fields.{fields}

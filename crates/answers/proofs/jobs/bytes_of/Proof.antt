@@ -1,4 +1,4 @@
--- `nufsadeem::jobs::bytes_of` meets its contract: in each case the fields are those of what is told. Assumes nothing.
+-- `answers::jobs::bytes_of` meets its contract: in each case the fields are those of what is told. Assumes nothing.
 use mathlib.Core.Path.{ap, sym, _∙_}
 use Rattle.job.specs.Answers.{toldWritten}
 use Rattle.answers.specs.Fields.{fields}

@@ -1,4 +1,4 @@
--- `nufsadeem::jobs::job_of` meets its contract: in each case the fields are those of what is told. Assumes nothing.
+-- `answers::jobs::job_of` meets its contract: in each case the fields are those of what is told. Assumes nothing.
 use mathlib.Core.Path.{ap, sym}
 use Rattle.job.specs.Answers.{toldRead}
 use Rattle.answers.specs.Fields.{fields}

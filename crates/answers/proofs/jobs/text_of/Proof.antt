@@ -1,4 +1,4 @@
--- `nufsadeem::jobs::text_of` meets its contract: in each case the fields are those of what is told. Assumes nothing.
+-- `answers::jobs::text_of` meets its contract: in each case the fields are those of what is told. Assumes nothing.
 use mathlib.Core.Path.{ap, sym, _∙_}
 use Rattle.report_text.specs.Answers.{toldReported}
 use Rattle.answers.specs.Fields.{fields}

@@ -1,4 +1,4 @@
--- `nufsadeem::judging::judgement_of` meets its contract: in each case the fields are those of what is told. Assumes nothing.
+-- `answers::verdicts::judgement_of` meets its contract: in each case the fields are those of what is told. Assumes nothing.
 use mathlib.Core.Path.{ap, sym, _∙_}
 use mathlib.Core.List.{_∷_}
 use Rattle.judge.specs.Answers.{toldVerdict}
