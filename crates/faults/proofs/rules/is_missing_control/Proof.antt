@@ -1,6 +1,5 @@
 -- `faults::rules::is_missing_control` meets its contract: each test is one of the fields of a missing control. Assumes nothing.
 use mathlib.Core.Path.{_≡_, sym, _∙_}
-use mathlib.Core.Bool.{true}
 use native.Mathlib.Omega.{arith}
 use borrow.Author.Tests.{not-true, not-false}
 use borrow.Author.Needs.{needs}
