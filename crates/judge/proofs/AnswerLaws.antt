@@ -7,31 +7,38 @@ use lib.Dec.{eqb}
 use borrow.Author.Tests.{eqb-true}
 use Rattle.basics.specs.Choice.{choice}
 use Rattle.basics.proofs.Tests.{and-both}
-use Rattle.refusals.specs.Tables.Told.{refused}
+use mathlib.Core.List.{[], _∷_}
+use Rattle.refusals.specs.Tables.Told.{answered, refused}
 use Rattle.refusals.specs.Checks.{fine}
 use Rattle.refusals.specs.declared.Refusal.{Refusal}
+use Rattle.refusals.proofs.Clashes.{answered-refused, refused-answered}
 use Rattle.refusals.proofs.Tables.{told-refusal}
 use Rattle.faults.specs.declared.Fault.{Fault}
 use Rattle.judge.specs.Answers.{toldVerdict, toldBeside}
 use Rattle.judge.specs.declared.Verdict.{Verdict}
 use Rattle.judge.specs.declared.Verdict.the-variants.{Complete, Left, Refused}
 
-same-fault : (f h : Fault) → f .class ≡ h .class → f .place ≡ h .place → f .line ≡ h .line → f .value ≡ h .value → f ≡ h
-same-fault f h c p l v = λ i. record { class = c i; place = p i; line = l i; value = v i }
+-- a verdict that shows a fault is not a complete one
+pub shown-complete {ℓ} : {A : Type ℓ} {a b c d k p l v : ℕ}
+    → answered (a ∷ b ∷ 0 ∷ k ∷ p ∷ l ∷ v ∷ []) ≡ answered (c ∷ d ∷ 1 ∷ 0 ∷ 0 ∷ 0 ∷ 0 ∷ []) → A
+shown-complete e = let z : _≡_ {A = ℕ} 0 1 = cc in absurd (omega arith)
+
+equal-fields : (f h : Fault) → f .class ≡ h .class → f .place ≡ h .place → f .line ≡ h .line → f .value ≡ h .value → f ≡ h
+equal-fields f h c p l v = λ i. record { class = c i; place = p i; line = l i; value = v i }
 
 pub told-verdict-one : (r s : Verdict) → toldVerdict r ≡ toldVerdict s → r ≡ s
 told-verdict-one (Complete a b) (Complete c d) e = cc
-told-verdict-one (Complete a b) (Left c d f) e = let z : _≡_ {A = ℕ} 0 1 = cc in absurd (omega arith)
-told-verdict-one (Complete a b) (Refused q) e = let z : _≡_ {A = ℕ} 0 1 = cc in absurd (omega arith)
-told-verdict-one (Left a b f) (Complete c d) e = let z : _≡_ {A = ℕ} 0 1 = cc in absurd (omega arith)
+told-verdict-one (Complete a b) (Left c d f) e = shown-complete (sym e)
+told-verdict-one (Complete a b) (Refused q) e = answered-refused e
+told-verdict-one (Left a b f) (Complete c d) e = shown-complete e
 told-verdict-one (Left a b f) (Left c d h) e =
-    let same : f ≡ h = same-fault f h (cc) (cc) (cc) (cc) in
+    let same : f ≡ h = equal-fields f h (cc) (cc) (cc) (cc) in
     let n : a ≡ c = cc in
     let m : b ≡ d = cc in
     cc
-told-verdict-one (Left a b f) (Refused q) e = let z : _≡_ {A = ℕ} 0 1 = cc in absurd (omega arith)
-told-verdict-one (Refused p) (Complete c d) e = let z : _≡_ {A = ℕ} 0 1 = cc in absurd (omega arith)
-told-verdict-one (Refused p) (Left c d h) e = let z : _≡_ {A = ℕ} 0 1 = cc in absurd (omega arith)
+told-verdict-one (Left a b f) (Refused q) e = answered-refused e
+told-verdict-one (Refused p) (Complete c d) e = refused-answered e
+told-verdict-one (Refused p) (Left c d h) e = refused-answered e
 told-verdict-one (Refused p) (Refused q) e = ap Refused (told-refusal p q e)
 
 -- ---- beside a coverage
@@ -44,8 +51,8 @@ none-is r e =
 beside-one : (b c : Bool) (r s : Refusal) → (b ≡ true → c ≡ true → r ≡ s)
     → choice b fine (refused (r .number) (r .place)) ≡ choice c fine (refused (s .number) (s .place)) → r ≡ s
 beside-one true true r s none e = none refl refl
-beside-one true false r s none e = let z : _≡_ {A = ℕ} 0 1 = cc in absurd (omega arith)
-beside-one false true r s none e = let z : _≡_ {A = ℕ} 0 1 = cc in absurd (omega arith)
+beside-one true false r s none e = answered-refused e
+beside-one false true r s none e = refused-answered e
 beside-one false false r s none e = told-refusal r s e
 
 pub told-beside-one : (r s : Refusal) → toldBeside r ≡ toldBeside s → r ≡ s

@@ -4,7 +4,6 @@ use mathlib.Core.Path.{_≡_, refl, sym, ap, _∙_}
 use mathlib.Core.Logic.{_↔_}
 use mathlib.Core.Bool.{true, false}
 use mathlib.Core.List.{List, [], _∷_, _++_, List·Memᴰ}
-use native.Mathlib.Omega.{arith}
 use lib.ListN.{length}
 use Rattle.basics.specs.Lists.{All}
 use Rattle.refusals.specs.Tables.Told.{answered}
@@ -16,6 +15,7 @@ use Rattle.faults.specs.Classes.{missingControls, extraControls}
 use Rattle.judge.specs.Judging.{caughtBySome, caughtOf, uncaughtOf, verdict}
 use Rattle.marking.specs.Firsts.{firstTold}
 use Rattle.faults.proofs.ClassCounts.{length-controls}
+use Rattle.judge.proofs.AnswerLaws.{shown-complete}
 use Rattle.judge.proofs.Verdicts.{SameVectors, complete-iff, first-uncaught, verdict-parts, caught-of-same, uncaught-same}
 
 -- classes 3 and 4 together hold d (n - 1) faults
@@ -25,7 +25,7 @@ controls-number = length-controls
 -- where no fault is uncaught the verdict says so, and only there
 first-nil : (fs : List Fault) (c t : ℕ) → answered (c ∷ t ∷ firstTold fs) ≡ answered (c ∷ t ∷ 1 ∷ 0 ∷ 0 ∷ 0 ∷ 0 ∷ []) → fs ≡ []
 first-nil [] c t e = refl
-first-nil (f ∷ fs) c t e = let z : _≡_ {A = ℕ} 0 1 = cc in absurd (omega arith)
+first-nil (f ∷ fs) c t e = shown-complete e
 
 -- where the verdict shows a fault it is the first that is uncaught
 pub record Shown (fs : List Fault) (class place line value : ℕ) : Type 0 where
@@ -38,7 +38,7 @@ pub record Shown (fs : List Fault) (class place line value : ℕ) : Type 0 where
   pub value-is : fault .value ≡ value
 
 first-cons : (fs : List Fault) (c t k p l v : ℕ) → answered (c ∷ t ∷ firstTold fs) ≡ answered (c ∷ t ∷ 0 ∷ k ∷ p ∷ l ∷ v ∷ []) → Shown fs k p l v
-first-cons [] c t k p l v e = let z : _≡_ {A = ℕ} 0 1 = cc in absurd (omega arith)
+first-cons [] c t k p l v e = shown-complete (sym e)
 first-cons (f ∷ fs) c t k p l v e = record { fault = f; rest = fs; first = refl; class-is = cc; place-is = cc; line-is = cc; value-is = cc }
 
 -- a verdict tells the number caught, the number in all, and the first uncaught fault

@@ -1,4 +1,4 @@
--- What the calls of judging promise, of a circuit of n lines that is lent as a list of words.
+-- What each public call of this crate tells: the first rule of its table that is broken, or else the answer; and the coverage that is handed back.
 use Prim.Native.Nat.{ℕ}
 use mathlib.Core.List.{List}
 use Rattle.refusals.specs.Tables.{Told, firstOf, after}
@@ -10,15 +10,15 @@ use Rattle.judge.specs.Judging.{verdict, setVerdict}
 use Rattle.judge.specs.Rules.{judgeRows, countRows, addRows}
 use Rattle.judge.specs.declared.coverage.Coverage.{Coverage}
 
--- the judge of a set, for a class
+-- `judge`, and `cover` by way of a coverage: the verdict on a set for a class
 abbrev pub judgeTells : ℕ → List ℕ → List ℕ → ℕ → Told
 judgeTells n words xs class = firstOf (judgeRows n words xs class) (setVerdict n (gatesOf words) xs class)
 
--- the count of a coverage, for a class
+-- `Coverage::count`: the verdict on a coverage for a class
 abbrev pub countTells : Coverage → ℕ → List ℕ → ℕ → Told
 countTells c n words class = firstOf (countRows n words class) (verdict (isMarked c) (classFaults n (gatesOf words) class))
 
--- one vector more: the refusal, and the coverage that is handed back
+-- `Coverage::with_vector`: the refusal, if there is one, and the coverage with the vector added, or else the same
 abbrev pub withVectorTells : ℕ → List ℕ → ℕ → Told
 withVectorTells n words x = firstOf (addRows n words x) fine
 

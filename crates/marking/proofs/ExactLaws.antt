@@ -20,16 +20,12 @@ use Rattle.circuit.specs.Sound.{Sound}
 use Rattle.faults.specs.Classes.{faultOf}
 use Rattle.faults.specs.Rules.{isFault}
 use Rattle.faults.specs.declared.Fault.{Fault}
+use Rattle.faults.proofs.ClassLists.{same-fault}
 use Rattle.faults.proofs.ClassLaws.{stuck-fault, names-gate, no-value, names-line}
 use Rattle.simulator.specs.Faulty.{caught}
 use Rattle.marking.specs.Marks.{caughtLines, marked, levelMarks, gateMarks, markAll, isOn, levelMarked, gateMarked}
 use Rattle.marking.proofs.MarkedLaws.{on-stays, marked-length, marked-at, marked-past, level-marks-length, gate-marks-length}
 use Rattle.marking.proofs.MarkedLaws.{level-mark-at, gate-mark-at}
-
--- a fault by its fields
-of-fields : (f : Fault) (class value : ℕ) → f .class ≡ class → f .value ≡ value → faultOf class (f .place) (f .line) value ≡ f
-unfolding faultOf
-of-fields f class value e v = λ i. record { class = sym e i; place = f .place; line = f .line; value = sym v i }
 
 -- what is marked at a place, where the marks reach it and where they do not
 on-more : (ws ms : List ℕ) (i j : ℕ) → i < length ws → i < length ms → isOn (marked ws ms) i j ≡ (isOn ws i j || isOn ms i j)
@@ -137,10 +133,10 @@ module _ (n : ℕ) (words : List ℕ) (ok : Sound n words) where
     unfolding Catches
     level-marked-more at0 at1 f one wide0 wide1 = by-equal (f .value) 0
         (λ e. rw (eq-eqb (f .value) 0 e)
-        (level-on at0 0 (f .place) (f .line) wide0 ∙ ap (λ h. isOn at0 (f .place) (f .line) || Catches h x) (of-fields f 1 0 one e)))
+        (level-on at0 0 (f .place) (f .line) wide0 ∙ ap (λ h. isOn at0 (f .place) (f .line) || Catches h x) (sym (same-fault f one refl e))))
         (λ a. by-equal (f .value) 1
         (λ e. rw (ne-eqb (f .value) 0 a, eq-eqb (f .value) 1 e)
-        (level-on at1 1 (f .place) (f .line) wide1 ∙ ap (λ h. isOn at1 (f .place) (f .line) || Catches h x) (of-fields f 1 1 one e)))
+        (level-on at1 1 (f .place) (f .line) wide1 ∙ ap (λ h. isOn at1 (f .place) (f .line) || Catches h x) (sym (same-fault f one refl e))))
         (λ b. rw (ne-eqb (f .value) 0 a, ne-eqb (f .value) 1 b)
         (sym (none-caught f x (λ is. omega (arith, stuck-fault n words f ok is one .value-in))))))
 
@@ -157,7 +153,7 @@ module _ (n : ℕ) (words : List ℕ) (ok : Sound n words) where
         (λ p. by-equal (f .value) 0
         (λ e. rw (le-leb 1 (f .place) (omega arith), eq-eqb (f .value) 0 e)
         (gate-on ws class (f .place) (f .line) other wide (omega arith)
-        ∙ ap (λ h. isOn ws (f .place - 1) (f .line) || Catches h x) (of-fields f class 0 of e)))
+        ∙ ap (λ h. isOn ws (f .place - 1) (f .line) || Catches h x) (sym (same-fault f of refl e))))
         (λ v. rw (le-leb 1 (f .place) (omega arith), ne-eqb (f .value) 0 v)
         (sym (none-caught f x (λ is. v (no-value n words f ok is not-one))))))
 

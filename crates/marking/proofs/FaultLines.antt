@@ -2,7 +2,7 @@
 use Prim.Native.Nat.{ℕ, zero, suc, _+_, _*_, _^_, _≤_, _<_}
 use mathlib.Core.Path.{_≡_, ap, _∙_}
 use mathlib.Core.Logic.{_≢_}
-use mathlib.Core.Bool.{false, not, _&&_, and-true}
+use mathlib.Core.Bool.{false, and-true}
 use mathlib.Core.List.{List}
 use native.Mathlib.Omega.{arith}
 use lib.ListN.{length}
@@ -50,9 +50,8 @@ module _ (n : ℕ) (gs : List Gate) where
 
     -- class 4: its other lines
     pub other-here : (j : ℕ) → j < n → isFault n gs (faultOf 4 i j 0) ≡ isOther (gateAt gs i) j
-    unfolding faultOf isFault isExtraControl isGate isOther
-    other-here j h = rw (le-leb 1 i lo, le-leb i (length gs) hi, lt-ltb j n h) (ap (λ b. not (isControl (gateAt gs i) j) && b)
-        (and-true (not (eqb j (gateAt gs i .target)))))
+    unfolding faultOf isFault isExtraControl isGate
+    other-here j h = rw (le-leb 1 i lo, le-leb i (length gs) hi, lt-ltb j n h) (and-true (isOther (gateAt gs i) j))
 
     -- the same as words
     pub lines-two : (class : ℕ) → class ≡ 2 → 1 ≤ n → gateLines n gs class i ≡ 1
