@@ -1,9 +1,9 @@
 //! Random cases. A round draws one circuit and asks every call about it.
 
 use crate::case::Question;
-use crate::make::{self, Drawn};
-use crate::random::Random;
 use crate::tally::Tally;
+use inputs::make::{self, Drawn};
+use inputs::Random;
 use model::{compact_bound, image_of, Job};
 use nufsadeem::{Circuit, Class};
 

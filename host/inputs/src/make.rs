@@ -1,6 +1,6 @@
 //! Random circuits, faults, sets and job images, good ones and damaged ones.
 
-use crate::random::Random;
+use crate::Random;
 use model::{image_of, Job};
 
 pub struct Drawn {
