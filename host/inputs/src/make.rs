@@ -206,6 +206,19 @@ pub fn room(random: &mut Random, needed: usize) -> usize {
     }
 }
 
+/// A job, now and then with classes that no job has.
+pub fn job(random: &mut Random, drawn: &Drawn) -> Job {
+    Job {
+        lines: drawn.lines,
+        classes: match random.one_in(10) {
+            true => random.pick(&[0, 16, 17, 31, u32::MAX]),
+            false => 1 + random.upto(14),
+        },
+        gates: drawn.gates.clone(),
+        vectors: states(random, drawn),
+    }
+}
+
 /// A job image, whole or damaged.
 pub fn image(random: &mut Random, job: &Job) -> Vec<u8> {
     let mut image = image_of(job);
