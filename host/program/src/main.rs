@@ -102,8 +102,14 @@ fn closed(program: &Program) -> Result<(), String> {
     )
 }
 
+/// A tenth of them where an emulator starts the program, which takes its time.
 fn jobs(program: &Program) -> Result<(), String> {
-    for round in 0..JOBS {
+    let rounds = if program.is_emulated() {
+        JOBS / 10
+    } else {
+        JOBS
+    };
+    for round in 0..rounds {
         let mut random = Random::of_round(SEED, round);
         let mut drawn = make::circuit(&mut random);
         if random.one_in(5) {
