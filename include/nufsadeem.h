@@ -117,7 +117,7 @@ nuf_count nuf_write_job(uint32_t lines, uint32_t classes, const uint32_t *gates,
 
 /* Writes the report on a job to the front of `out`; `count` is the number of bytes written. Any bytes have a report: that of a job
  * that breaks a rule is a line with the rule's number and place.
- * Rule 10. Room: the text's length. */
+ * Rule 10. Room: the text's length, which is 100 bytes at most. */
 nuf_count nuf_report(const uint8_t *bytes, size_t bytes_len, uint8_t *out, size_t out_len);
 
 #ifdef __cplusplus

@@ -150,7 +150,7 @@ impl Numbers {
                 .map(|_| self.next() % lines)
                 .filter(|line| *line != target)
                 .collect();
-            words.extend(gate(&controls, target));
+            words.extend(gate(&controls, target).expect("the lines are below 32"));
         }
         words
     }

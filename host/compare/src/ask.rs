@@ -106,9 +106,9 @@ fn judge(lines: u32, gates: &[u32], vectors: &[u32], class: u32) -> Result<u64, 
     });
     let (g, g_len, v, v_len) = (start(gates), gates.len(), start(vectors), vectors.len());
     let judged = unsafe { raw::nuf_judge(lines, g, g_len, v, v_len, class) };
-    same("nuf_judge", judged_fields(judged), expected)?;
+    same("nuf_judge", verdict_fields(judged), expected)?;
     let covered = unsafe { raw::nuf_cover(lines, g, g_len, v, v_len, class) };
-    same("nuf_cover", judged_fields(covered), expected)?;
+    same("nuf_cover", verdict_fields(covered), expected)?;
     let told = result(told.map(|verdict| Verdict {
         caught: verdict.caught,
         total: verdict.total,
@@ -356,14 +356,14 @@ fn count_fields(count: raw::Count) -> [u32; 3] {
     [count.number, count.place, count.count]
 }
 
-fn judged_fields(judged: raw::Judged) -> [u32; 9] {
-    let [class, place, line, value] = <[u32; 4]>::from(judged.first);
+fn verdict_fields(verdict: raw::Verdict) -> [u32; 9] {
+    let [class, place, line, value] = <[u32; 4]>::from(verdict.first);
     [
-        judged.number,
-        judged.place,
-        judged.caught,
-        judged.total,
-        judged.complete,
+        verdict.number,
+        verdict.place,
+        verdict.caught,
+        verdict.total,
+        verdict.complete,
         class,
         place,
         line,

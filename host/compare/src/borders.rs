@@ -1,10 +1,9 @@
 //! Every rule at its border: one below, at it, and one above.
 
 use crate::case::Question;
-use crate::make;
-use crate::random::Random;
 use crate::samples::{sample_gates, LINES};
 use crate::tally::Tally;
+use inputs::{make, Random};
 use model::{compact_bound, image_of, Job};
 
 pub fn compare(tally: &mut Tally) -> Result<(), String> {

@@ -4,6 +4,7 @@
 use crate::case::Question;
 use crate::samples::SAMPLE_IMAGE;
 use crate::tally::Tally;
+use nufsadeem::LONGEST_REPORT;
 
 const HEADER: usize = 28;
 
@@ -55,6 +56,6 @@ fn read_and_report(tally: &mut Tally, bytes: Vec<u8>) -> Result<(), String> {
         gate_room: 6,
         vector_room: 3,
     })?;
-    let room = 128;
+    let room = LONGEST_REPORT;
     tally.image(Question::Report { bytes, room })
 }

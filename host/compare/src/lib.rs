@@ -7,8 +7,6 @@ mod case;
 mod images;
 mod lent;
 mod longest_report;
-mod make;
-mod random;
 mod rounds;
 mod samples;
 mod small;

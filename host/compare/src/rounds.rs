@@ -1,10 +1,10 @@
 //! Random cases. A round draws one circuit and asks every call about it.
 
 use crate::case::Question;
-use crate::make::{self, Drawn};
-use crate::random::Random;
 use crate::tally::Tally;
-use model::{compact_bound, image_of, Job};
+use inputs::make::{self, Drawn};
+use inputs::Random;
+use model::{compact_bound, image_of};
 use nufsadeem::{Circuit, Class};
 
 /// The simulator's compact set runs each fault on each input; larger circuits take too long.
@@ -79,15 +79,7 @@ fn sets(tally: &mut Tally, random: &mut Random, drawn: &Drawn) -> Result<(), Str
 }
 
 fn jobs(tally: &mut Tally, random: &mut Random, drawn: &Drawn) -> Result<(), String> {
-    let job = Job {
-        lines: drawn.lines,
-        classes: match random.one_in(10) {
-            true => random.pick(&[0, 16, 17, 31, u32::MAX]),
-            false => 1 + random.upto(14),
-        },
-        gates: drawn.gates.clone(),
-        vectors: make::states(random, drawn),
-    };
+    let job = make::job(random, drawn);
     let written = Question::WriteJob {
         classes: job.classes,
         vectors: job.vectors.clone(),

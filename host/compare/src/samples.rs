@@ -7,7 +7,10 @@ use std::fmt::Debug;
 pub const LINES: u32 = 3;
 
 pub fn sample_gates() -> Vec<u32> {
-    [gate(&[0, 1], 2), gate(&[0], 1)].concat()
+    let gates = [gate(&[0, 1], 2), gate(&[0], 1)];
+    gates
+        .map(|gate| gate.expect("the lines are below 32"))
+        .concat()
 }
 
 #[rustfmt::skip]

@@ -1,9 +1,9 @@
 //! Every question about small circuits: the sample circuit, and all circuits of few lines and gates.
 
 use crate::case::Question;
-use crate::make::ones;
 use crate::samples::{sample_gates, LINES};
 use crate::tally::Tally;
+use inputs::make::ones;
 use model::compact_bound;
 
 pub fn compare(tally: &mut Tally) -> Result<(), String> {

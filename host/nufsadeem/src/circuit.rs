@@ -1,12 +1,22 @@
 use crate::{raw, Fault, Refusal, Verdict};
 
+/// The most lines a circuit can have, and the bits of a mask.
+const MOST_LINES: u32 = 32;
+
 /// The most vectors a compact set can have: 2 + floor(log2 S), with S at 12 lines and 1,024 gates.
 const LARGEST_COMPACT_SET: usize = 15;
 
-/// The three words of a gate, in the order of the job image. The lines must be below 32.
-pub fn gate(controls: &[u32], target: u32) -> [u32; 3] {
+/// The three words of a gate, in the order of the job image. A line of 32 or above is in no circuit and in no
+/// mask, and gets the refusal of a bad gate, 7 at place 1. What else a gate must be is for each call to say.
+pub fn gate(controls: &[u32], target: u32) -> Result<[u32; 3], Refusal> {
+    if target >= MOST_LINES || controls.iter().any(|line| *line >= MOST_LINES) {
+        return Err(Refusal {
+            number: 7,
+            place: 1,
+        });
+    }
     let mask = controls.iter().fold(0, |mask, line| mask | 1 << line);
-    [mask, 0, target]
+    Ok([mask, 0, target])
 }
 
 /// Lines and gates, three words a gate. Whether they make a circuit is for each call to say.
@@ -147,4 +157,38 @@ impl<'a> Circuit<'a> {
 
 pub(crate) fn count(answer: raw::Count) -> Result<usize, Refusal> {
     Refusal::or(answer.number, answer.place, answer.count as usize)
+}
+
+#[cfg(test)]
+mod tests {
+    use super::gate;
+    use crate::Refusal;
+
+    const BAD_GATE: Refusal = Refusal {
+        number: 7,
+        place: 1,
+    };
+
+    #[test]
+    fn lines_below_32_make_a_gate() {
+        assert_eq!(gate(&[], 0), Ok([0, 0, 0]));
+        assert_eq!(gate(&[0, 1], 2), Ok([3, 0, 2]));
+        assert_eq!(gate(&[31, 0, 31], 30), Ok([1 << 31 | 1, 0, 30]));
+    }
+
+    #[test]
+    fn a_control_of_32_or_above_is_refused() {
+        for line in [32, 33, 34, 63, 64, 65, u32::MAX] {
+            assert_eq!(gate(&[line], 2), Err(BAD_GATE));
+            assert_eq!(gate(&[0, line, 1], 2), Err(BAD_GATE));
+        }
+    }
+
+    #[test]
+    fn a_target_of_32_or_above_is_refused() {
+        for line in [32, 33, 34, 63, 64, 65, u32::MAX] {
+            assert_eq!(gate(&[], line), Err(BAD_GATE));
+            assert_eq!(gate(&[0, 1], line), Err(BAD_GATE));
+        }
+    }
 }

@@ -1,8 +1,8 @@
 use crate::circuit::count;
 use crate::{raw, Circuit, Refusal};
 
-/// Room for any report: the longest five lines have 100 bytes.
-const LONGEST_REPORT: usize = 128;
+/// The bytes of the longest report, which is room for any. The library has a proof that no report is longer.
+pub const LONGEST_REPORT: usize = 100;
 
 /// A circuit, a set of vectors, and the classes to judge it for.
 #[derive(Clone, PartialEq, Eq, Debug)]

@@ -5,7 +5,7 @@
 //! ```
 //! use nufsadeem::{gate, Circuit, Class, Fault};
 //!
-//! let gates = [gate(&[0, 1], 2), gate(&[0], 1)].concat();
+//! let gates = [gate(&[0, 1], 2)?, gate(&[0], 1)?].concat();
 //! let circuit = Circuit::new(3, &gates);
 //! let verdict = circuit.judge(&[0, 7], Class::StuckAt)?;
 //! assert_eq!((verdict.caught, verdict.total), (15, 18));
@@ -22,6 +22,6 @@ mod verdict;
 
 pub use circuit::{gate, Circuit};
 pub use fault::{Class, Fault};
-pub use job::{read_job_into, report, report_into, Job, JobHead};
+pub use job::{read_job_into, report, report_into, Job, JobHead, LONGEST_REPORT};
 pub use refusal::Refusal;
 pub use verdict::Verdict;

@@ -1,4 +1,5 @@
-//! The C interface, as `include/nufsadeem.h` has it.
+//! The C interface, as `include/nufsadeem.h` has it: each function by its name, each struct by its name without
+//! the prefix.
 //!
 //! `number` is 0 where a call answers. Else it is the number of a refusal, `place` is its place, and
 //! every other field is 0. A pointer must be good for its length; at length 0 any pointer will do.
@@ -39,7 +40,7 @@ pub struct Count {
 
 #[repr(C)]
 #[derive(Clone, Copy, PartialEq, Eq, Debug)]
-pub struct JobRead {
+pub struct Job {
     pub number: u32,
     pub place: u32,
     pub lines: u32,
@@ -50,7 +51,7 @@ pub struct JobRead {
 
 #[repr(C)]
 #[derive(Clone, Copy, PartialEq, Eq, Debug)]
-pub struct Judged {
+pub struct Verdict {
     pub number: u32,
     pub place: u32,
     pub caught: u32,
@@ -101,7 +102,7 @@ extern "C" {
         vectors: *const u32,
         vectors_len: usize,
         class: u32,
-    ) -> Judged;
+    ) -> Verdict;
 
     pub fn nuf_cover(
         lines: u32,
@@ -110,7 +111,7 @@ extern "C" {
         vectors: *const u32,
         vectors_len: usize,
         class: u32,
-    ) -> Judged;
+    ) -> Verdict;
 
     pub fn nuf_test_for(lines: u32, gates: *const u32, gates_len: usize, fault: Fault) -> Vector;
 
@@ -155,7 +156,7 @@ extern "C" {
         gates_len: usize,
         vectors: *mut u32,
         vectors_len: usize,
-    ) -> JobRead;
+    ) -> Job;
 
     pub fn nuf_write_job(
         lines: u32,

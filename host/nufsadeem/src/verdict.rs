@@ -14,7 +14,7 @@ impl Verdict {
         self.first_uncaught.is_none()
     }
 
-    pub(crate) fn of(answer: raw::Judged) -> Result<Verdict, Refusal> {
+    pub(crate) fn of(answer: raw::Verdict) -> Result<Verdict, Refusal> {
         let verdict = Verdict {
             caught: answer.caught,
             total: answer.total,

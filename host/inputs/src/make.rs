@@ -1,6 +1,6 @@
 //! Random circuits, faults, sets and job images, good ones and damaged ones.
 
-use crate::random::Random;
+use crate::Random;
 use model::{image_of, Job};
 
 pub struct Drawn {
@@ -203,6 +203,19 @@ pub fn room(random: &mut Random, needed: usize) -> usize {
         2 => random.upto(needed as u32) as usize,
         3 => needed + random.index(20),
         _ => needed,
+    }
+}
+
+/// A job, now and then with classes that no job has.
+pub fn job(random: &mut Random, drawn: &Drawn) -> Job {
+    Job {
+        lines: drawn.lines,
+        classes: match random.one_in(10) {
+            true => random.pick(&[0, 16, 17, 31, u32::MAX]),
+            false => 1 + random.upto(14),
+        },
+        gates: drawn.gates.clone(),
+        vectors: states(random, drawn),
     }
 }
 

@@ -1,0 +1,8 @@
+//! Circuits, faults, sets and job images to try the library and the program with. It needs neither of them.
+
+mod longest;
+pub mod make;
+mod random;
+
+pub use longest::{longest_job, LONGEST_TEXT};
+pub use random::Random;
