@@ -13,7 +13,7 @@ use Rattle.circuit.specs.declared.Gate.{Gate}
 use Rattle.simulator.specs.Faulty.{caught}
 use Rattle.faults.specs.Entries.{StuckOk}
 use Rattle.faults.specs.declared.Fault.{Fault}
-use Rattle.judge.specs.Judging.{left, caughtBySome}
+use Rattle.judge.specs.Judging.{uncaughtOf, caughtBySome}
 use Rattle.testsets.specs.Sets.{score, best, picks}
 use Rattle.testsets.proofs.SetLaws.{all-left}
 use Rattle.testsets.proofs.Halving.{best-lt, best-above, best-half, half-left}
@@ -48,11 +48,11 @@ module _ (n : ℕ) (gs : List Gate) (ok : AllOk n gs) where
       }
 
   -- what one vector leaves
-  left-one : (v : ℕ) (fs : List Fault) → left gs (v ∷ []) fs ≡ keep (λ f. not (caught gs f v)) fs
-  unfolding left caughtBySome some
+  left-one : (v : ℕ) (fs : List Fault) → uncaughtOf gs (v ∷ []) fs ≡ keep (λ f. not (caught gs f v)) fs
+  unfolding uncaughtOf caughtBySome some
   left-one v fs = keep-cong (λ f. ap not (or-false (caught gs f v))) fs
 
-  left-kept : (v : ℕ) (fs : List Fault) → All Stuck fs → Kept (λ f. Missed gs f v) (λ f. Caught gs f v) fs (left gs (v ∷ []) fs)
+  left-kept : (v : ℕ) (fs : List Fault) → All Stuck fs → Kept (λ f. Missed gs f v) (λ f. Caught gs f v) fs (uncaughtOf gs (v ∷ []) fs)
   left-kept v fs w = subst (Kept (λ f. Missed gs f v) (λ f. Caught gs f v) fs) (sym (left-one v fs))
       (kept-keep _ _ _ fs (all-map (λ f d. decides-not (λ h. caught gs h v) (λ h. Caught gs h v) (λ h. Missed gs h v) f d) fs (decided v fs w)))
 
@@ -64,7 +64,7 @@ module _ (n : ℕ) (gs : List Gate) (ok : AllOk n gs) where
   picks-are (suc k) [] w h = refl
   picks-are (suc k) (f ∷ fs) w h =
       let v : ℕ = best n gs (f ∷ fs) in
-      let rest : List Fault = left gs (v ∷ []) (f ∷ fs) in (
+      let rest : List Fault = uncaughtOf gs (v ∷ []) (f ∷ fs) in (
         λ e. nil≢cons (sym e),
         best-is (f ∷ fs) w,
         (

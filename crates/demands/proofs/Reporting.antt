@@ -21,7 +21,7 @@ use Rattle.circuit.specs.Sound.{Sound}
 use Rattle.circuit.specs.declared.Gate.{Gate}
 use Rattle.faults.specs.declared.Fault.{Fault}
 use Rattle.faults.specs.Classes.{classFaults}
-use Rattle.judge.specs.Judging.{caughtOf, left}
+use Rattle.judge.specs.Judging.{caughtOf, uncaughtOf}
 use Rattle.marking.specs.Firsts.{firstTold}
 use Rattle.job.specs.Image.{linesIn, classesIn, gateWords, vectorWords}
 use Rattle.job.specs.Rules.{readRows}
@@ -130,18 +130,18 @@ last-of class lo (f ∷ rest) = by-equal class 1
 
 module _ (n : ℕ) (words xs : List ℕ) (sound : Sound n words) where
   class-line : (class : ℕ) → 1 ≤ class → ClassLine n words xs class (classText n (gatesOf words) xs class)
-  unfolding classText caughtOf left line letterOf
+  unfolding classText caughtOf uncaughtOf line letterOf
   class-line class lo =
       let gs : List Gate = gatesOf words in
       let fs : List Fault = classFaults n gs class in
       record {
         number = length (caughtOf gs xs fs);
         total = length fs;
-        shown = firstTold (left gs xs fs);
+        shown = firstTold (uncaughtOf gs xs fs);
         judged = judges n words xs class sound;
-        last = firstText class (left gs xs fs);
-        last-is = last-of class lo (left gs xs fs);
-        text-is = ap (λ l. textLine (letter class) (l ++ firstText class (left gs xs fs))) (fields-are (length (caughtOf gs xs fs) ∷ length fs ∷ []));
+        last = firstText class (uncaughtOf gs xs fs);
+        last-is = last-of class lo (uncaughtOf gs xs fs);
+        text-is = ap (λ l. textLine (letter class) (l ++ firstText class (uncaughtOf gs xs fs))) (fields-are (length (caughtOf gs xs fs) ∷ length fs ∷ []));
       }
 
   -- a class's part of the text

@@ -102,7 +102,7 @@ module _ (n : ℕ) (words room exit : List ℕ) where
       → exit ≡ after (backwardRows n words (length room)) (backwardSet n its ++ drop (length (backwardSet n its)) room) room
       → MakesBackward n words room (length (backwardSet n its) ∷ []) exit
   unfolding backwardSet forward
-  makes-backward unbroken left =
+  makes-backward unbroken uncaughtOf =
       let w = backward-ok n words (length room) unbroken in
       let ok : AllOk n its = w .circuit .gates-ok in
       let vectors : ℕ → ℕ = backwardInput n its in
@@ -132,7 +132,7 @@ module _ (n : ℕ) (words room exit : List ℕ) where
       → exit ≡ after (compactRows n words (length room)) (compactSet n its ++ drop (length (compactSet n its)) room) room
       → MakesCompact n words room (length (compactSet n its) ∷ []) exit
   unfolding compactSet bound
-  makes-compact unbroken left =
+  makes-compact unbroken uncaughtOf =
       let w = compact-ok n words (length room) unbroken in
       let ok : AllOk n its = w .circuit .gates-ok in
       let S : ℕ = siteCount n its in

@@ -24,7 +24,7 @@ use Rattle.faults.specs.Records.{noFault, faultsOf, firstBadRecord}
 use Rattle.faults.specs.Sites.{sites}
 use Rattle.faults.specs.declared.Fault.{Fault}
 use Rattle.faults.specs.Classes.{faultOf, stuckFaults, classFaults, isClass}
-use Rattle.judge.specs.Judging.{caughtBySome, left, verdict}
+use Rattle.judge.specs.Judging.{caughtBySome, uncaughtOf, verdict}
 use Rattle.judge.specs.Rules.{classRows, judgeRows}
 use Rattle.judge.specs.Answers.{toldVerdict}
 use Rattle.judge.proofs.judge.Reads as judge
@@ -95,7 +95,7 @@ promisedRoom words = after (compactRows 3 words (length room))
 -- the sample circuit, and the circuit with no gate
 pub rooms-are : (promisedRoom sampleWords ≡ 0 ∷ 3 ∷ 5 ∷ 0 ∷ 0 ∷ []) × (promisedRoom [] ≡ 0 ∷ 7 ∷ 0 ∷ 0 ∷ 0 ∷ [])
 unfolding sampleWords upFrom keep each some sumFrom bit flip force allOn allOnes linesOn gatesOf isControl step fires run forceAt stuckRun faulty
-    caught sites faultOf stuckFaults caughtBySome left log2In log2 score bestOf best picks siteCount bound compactSet badGate firstBadGate
+    caught sites faultOf stuckFaults caughtBySome uncaughtOf log2In log2 score bestOf best picks siteCount bound compactSet badGate firstBadGate
     circuitSetRows circuitRows compactRows firstBadFrom
 rooms-are = (refl, refl)
 

@@ -15,7 +15,7 @@ use Rattle.refusals.specs.Tables.Told.{answered}
 use Rattle.circuit.specs.declared.Gate.{Gate}
 use Rattle.faults.specs.declared.Fault.{Fault}
 use Rattle.faults.specs.Classes.{classFaults}
-use Rattle.judge.specs.Judging.{caughtBySome, caughtOf, left, verdict}
+use Rattle.judge.specs.Judging.{caughtBySome, caughtOf, uncaughtOf, verdict}
 use Rattle.marking.specs.Firsts.{firstTold}
 use Rattle.judge.specs.Answers.{toldVerdict}
 use Rattle.judge.specs.declared.Verdict.{Verdict}
@@ -130,7 +130,7 @@ of-told class a b rest (Refused r) e = let z : _≡_ {A = ℕ} 0 1 = cc in absur
 
 pub verdict-text : (n : ℕ) (gs : List Gate) (xs : List ℕ) (class : ℕ) (v : Verdict)
     → toldVerdict v ≡ verdict (caughtBySome gs xs) (classFaults n gs class) → verdictText class v ≡ classText n gs xs class
-unfolding verdict classText caughtOf left
+unfolding verdict classText caughtOf uncaughtOf
 verdict-text n gs xs class v e = of-told class _ _ _ v e
 
 -- ---- the classes wanted, one a turn

@@ -19,7 +19,7 @@ use Rattle.circuit.specs.declared.Gate.{Gate}
 use Rattle.faults.specs.declared.Fault.{Fault}
 use Rattle.faults.proofs.SiteLaws.{site-line}
 use Rattle.faults.specs.Classes.{faultOf, classFaults, missingControls, extraControls}
-use Rattle.judge.specs.Judging.{caughtBySome, caughtOf, left}
+use Rattle.judge.specs.Judging.{caughtBySome, caughtOf, uncaughtOf}
 use Rattle.faults.proofs.ClassLists.{list-one, list-two, list-three, list-four}
 use Rattle.faults.proofs.ClassParts.{all-stuck, all-missing-gates, all-missing-controls, all-extra-controls}
 use Rattle.faults.proofs.ClassCounts.{length-missing-gates, length-controls}
@@ -64,7 +64,7 @@ module _ (n : ℕ) (gs : List Gate) (xs : List ℕ) (class : ℕ) where
   class-fits : (more places most : ℕ) → more + places ≡ 10 → 1 ≤ places → length (classFaults n gs class) < 10 ^ places → 3 ≤ most
       → All (λ f. length (each spaced (shown class f)) ≤ most) (classFaults n gs class)
       → length (classText n gs xs class) ≤ 2 + (2 * (1 + places) + most)
-  unfolding classText caughtOf left
+  unfolding classText caughtOf uncaughtOf
   class-fits more places most e p h k w =
       let fs = classFaults n gs class in
       let caught = length (keep (caughtBySome gs xs) fs) in

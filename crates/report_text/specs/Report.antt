@@ -13,7 +13,7 @@ use Rattle.circuit.specs.Gates.{gatesOf}
 use Rattle.circuit.specs.declared.Gate.{Gate}
 use Rattle.faults.specs.declared.Fault.{Fault}
 use Rattle.faults.specs.Classes.{classFaults}
-use Rattle.judge.specs.Judging.{caughtOf, left}
+use Rattle.judge.specs.Judging.{caughtOf, uncaughtOf}
 use Rattle.job.specs.Image.{linesIn, classesIn, gateWords, vectorWords}
 use Rattle.job.specs.Rules.{readRows}
 use Rattle.job.specs.Wanted.{wanted}
@@ -40,7 +40,7 @@ firstText class (f ∷ rest) = each spaced (shown class f)
 unfoldable pub classText : ℕ → List Gate → List ℕ → ℕ → List ℕ
 classText n gs xs class = line (letterOf class)
     (each spaced (length (caughtOf gs xs (classFaults n gs class)) ∷ length (classFaults n gs class) ∷ [])
-    ++ firstText class (left gs xs (classFaults n gs class)))
+    ++ firstText class (uncaughtOf gs xs (classFaults n gs class)))
 
 -- J with lines, gates and vectors
 abbrev pub jobLine : ℕ → List ℕ → List ℕ → List ℕ
