@@ -1,0 +1,98 @@
+-- Every border holds: each row by computing, with all definitions unfolded, and the longest job by the law of jobs that are written and
+-- read. A row that is wrong is shown by the check, with its number, what came and what was expected. Assumes nothing.
+use mathlib.Core.Path.{refl}
+use Rattle.basics.specs.Lists.{upFrom, keep, each, some}
+use Rattle.basics.specs.Sums.{sumFrom}
+use Rattle.words.specs.Word.{bit, flip, force, allOn, allOnes, linesOn}
+use Rattle.words.specs.Inverse.{inverse}
+use Rattle.words.specs.WordOf.{wordOf, lacking, loneZero}
+use Rattle.refusals.specs.Places.{firstBadFrom, inWord}
+use Rattle.circuit.specs.Gates.{gatesOf, gateAt, noGate}
+use Rattle.circuit.specs.Controls.{isControl, lessControl, moreControl, isOther}
+use Rattle.circuit.specs.Runs.{fires, step, run, forward, backward}
+use Rattle.circuit.specs.Rules.{badGate, firstBadGate, firstBadVector, circuitSetRows, circuitRows, setRows, vectorRows, levelRows, runRows}
+use Rattle.simulator.specs.Faulty.{forceAt, stuckRun, without, changed, faulty, caught}
+use Rattle.faults.specs.Sites.{sites}
+use Rattle.faults.specs.Rules.{isStuckAt, isGate, isMissingGate, isMissingControl, isExtraControl, isFault}
+use Rattle.faults.specs.Records.{noFault}
+use Rattle.faults.specs.Rules.{faultRows}
+use Rattle.simulator.specs.Rules.{catchRows, testRows}
+use Rattle.faults.specs.Records.{faultsOf, firstBadRecord}
+use Rattle.simulator.specs.Faulty.{caughtTogether}
+use Rattle.faults.specs.Multiple.{badEntry, sameSite, siteTwice, entriesRows}
+use Rattle.simulator.specs.Rules.{multipleRows}
+use Rattle.simulator.specs.Tests.{testLevel, lineAtZero, testState, testFor}
+use Rattle.faults.specs.Classes.{faultOf, stuckFaults, missingGates, missingControls, extraControls, classFaults, isClass}
+use Rattle.judge.specs.Judging.{caughtBySome, caughtOf, uncaughtOf, verdict}
+use Rattle.judge.specs.Coverages.{emptyCoverage, withVector, isMarked}
+use Rattle.marking.specs.Marks.{caughtLines, marked}
+use Rattle.judge.specs.Rules.{classRows, judgeRows, countRows}
+use Rattle.dropping.specs.Dropping.{uncaught, dropped, wordsOf}
+use Rattle.dropping.specs.Rules.{badRecord, recordRows, dropRows, dropRecordsRows}
+use Rattle.testsets.specs.Log2.{log2In, log2}
+use Rattle.testsets.specs.Sets.{score, bestOf, best, picks, bound, compactSet, backwardInput, backwardSet}
+use Rattle.faults.specs.Sites.{siteCount}
+use Rattle.testsets.specs.Rules.{backwardRows, compactRows}
+use Rattle.job.specs.Bytes.{bytesOf, numberAt, wordsAt}
+use Rattle.job.specs.Image.{header, rowBytes, gateCount, image, linesIn, classesIn, gatesIn, vectorsIn, gateWords, vectorWords}
+use Rattle.job.specs.Rules.{badClasses, badSizes, headerRows, contentRows, readRows, writeRows}
+use Rattle.text.specs.Decimal.{digit, decimalIn, decimal}
+use Rattle.report_text.specs.Lines.{spaced, line}
+use Rattle.report_text.specs.Report.{letterOf, shown, firstText, classText, jobText, refusedText, reportText}
+use Rattle.job.specs.Wanted.{isWanted, wanted}
+use Rattle.report_text.specs.Rules.{reportRows}
+use Rattle.proved_samples.specs.Sample.{sampleWords, sampleJob}
+use Rattle.borders.specs.Answers.{answerTable}
+use Rattle.borders.specs.Circuit.{circuitTable}
+use Rattle.borders.specs.Faults.{faultTable}
+use Rattle.borders.specs.Meanings.{meaningTable}
+use Rattle.borders.specs.Multiple.{multipleTable}
+use Rattle.borders.specs.Judging.{judgeTable}
+use Rattle.borders.specs.Dropping.{dropTable}
+use Rattle.borders.specs.Sets.{setTable}
+use Rattle.borders.specs.Images.{job, bareJob}
+use Rattle.borders.specs.Reading.{readTable}
+use Rattle.borders.specs.Writing.{writeTable}
+use Rattle.borders.specs.Reports.{reportTable}
+use Rattle.borders.specs.Orders.{orderTable}
+use Rattle.borders.specs.JobOrders.{jobOrderTable}
+use Rattle.borders.specs.Long.{longTable, longOrderTable}
+use Rattle.borders.specs.Claim.{Borders}
+use Rattle.borders.proofs.Computing.{by-computing}
+use Rattle.borders.proofs.Longest.{longest-read, longest-reported}
+
+pub every-border : Borders
+unfolding answerTable circuitTable faultTable meaningTable multipleTable judgeTable dropTable setTable job bareJob readTable writeTable
+    reportTable orderTable jobOrderTable longTable longOrderTable sampleWords sampleJob
+    upFrom keep each some sumFrom bit flip force allOn allOnes linesOn inverse wordOf lacking loneZero firstBadFrom inWord
+    gatesOf gateAt noGate isControl lessControl moreControl isOther fires step run forward backward badGate firstBadGate firstBadVector
+    circuitSetRows circuitRows setRows vectorRows levelRows runRows
+    forceAt stuckRun without changed faulty caught sites isStuckAt isGate isMissingGate isMissingControl isExtraControl isFault noFault
+    faultRows catchRows testRows faultsOf firstBadRecord caughtTogether badEntry sameSite siteTwice entriesRows multipleRows
+    testLevel lineAtZero testState testFor
+    faultOf stuckFaults missingGates missingControls extraControls classFaults isClass caughtBySome caughtOf uncaughtOf verdict
+    emptyCoverage caughtLines marked withVector isMarked classRows judgeRows countRows
+    uncaught dropped wordsOf badRecord recordRows dropRows dropRecordsRows
+    log2In log2 score bestOf best picks siteCount bound compactSet backwardInput backwardSet backwardRows compactRows
+    bytesOf numberAt wordsAt header rowBytes gateCount image linesIn classesIn gatesIn vectorsIn gateWords vectorWords
+    badLines badClasses badCounts badSizes headerRows contentRows readRows writeRows
+    digit decimalIn decimal spaced line letterOf shown firstText classText isWanted wanted jobText refusedText reportText reportRows
+every-border = record {
+  answers = by-computing answerTable refl;
+  circuits = by-computing circuitTable refl;
+  faults = by-computing faultTable refl;
+  meanings = by-computing meaningTable refl;
+  multiple-faults = by-computing multipleTable refl;
+  judging = by-computing judgeTable refl;
+  dropping = by-computing dropTable refl;
+  sets = by-computing setTable refl;
+  reading = by-computing readTable refl;
+  writing = by-computing writeTable refl;
+  reports = by-computing reportTable refl;
+  orders = by-computing orderTable refl;
+  job-orders = by-computing jobOrderTable refl;
+  long-lists = by-computing longTable refl;
+  long-orders = by-computing longOrderTable refl;
+  longest-read = longest-read;
+  longest-reported = longest-reported;
+}

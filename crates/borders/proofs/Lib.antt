@@ -1,0 +1,5 @@
+pub mod Contracts
+pub mod ContractsOfC
+pub mod Computing
+pub mod Longest
+pub mod Borders

@@ -1,0 +1,66 @@
+-- The longest job is taken. It is the image of a job that is written, and so it is read as that job, by the law that a job which is
+-- written is read again as it was: reading 20,480 bytes one by one would be long to compute. Assumes nothing.
+use Prim.Native.Nat.{ℕ}
+use mathlib.Core.Path.{_≡_, refl, sym, ap, subst, _∙_}
+use mathlib.Core.List.{List, [], _∷_}
+use native.Mathlib.Omega.{arith}
+use lib.ListN.{take, replicate}
+use Rattle.basics.specs.Lists.{each}
+use Rattle.words.specs.Word.{bit}
+use Rattle.refusals.specs.Tables.{firstOf}
+use Rattle.refusals.specs.Tables.Told.{answered}
+use Rattle.refusals.specs.Checks.{fine}
+use Rattle.refusals.specs.Places.{firstBadFrom}
+use Rattle.refusals.proofs.Tables.{fine-all}
+use Rattle.circuit.specs.Gates.{gatesOf}
+use Rattle.circuit.specs.Controls.{isControl}
+use Rattle.circuit.specs.Rules.{badGate, firstBadGate, firstBadVector}
+use Rattle.job.specs.Bytes.{bytesOf}
+use Rattle.job.specs.Image.{header, rowBytes, gateCount, image, linesIn, classesIn, gatesIn, vectorsIn, gateWords, vectorWords}
+use Rattle.job.specs.Rules.{badClasses, contentRows, readRows, writeRows}
+use Rattle.job.proofs.RoundTrip.{Holds, read-written, read-written-fine}
+use Rattle.text.specs.Decimal.{digit, decimalIn, decimal}
+use Rattle.report_text.specs.Lines.{spaced, line}
+use Rattle.report_text.specs.Report.{jobText, reportText, textOf}
+use Rattle.borders.specs.Calls.{askRead}
+use Rattle.borders.specs.Images.{longestJob}
+
+abbrev words : List ℕ
+words = replicate 3072 0
+
+abbrev vectors : List ℕ
+vectors = replicate 2048 0
+
+image-is : image 1 1 words vectors ≡ longestJob
+unfolding image header rowBytes bytesOf gateCount each longestJob
+image-is = refl
+
+written : fine ≡ firstOf (writeRows 1 1 words vectors 20508) fine
+unfolding writeRows contentRows badLines badClasses badCounts gateCount firstBadGate firstBadVector firstBadFrom badGate isControl bit gatesOf
+    image header rowBytes bytesOf each
+written = refl
+
+holds : Holds longestJob 1 1 words vectors
+holds = subst (λ bytes. Holds bytes 1 1 words vectors) image-is (read-written 1 1 words vectors 20508 written)
+
+passed : fine ≡ firstOf (readRows longestJob 3072 2048) fine
+unfolding gateCount
+passed = subst (λ bytes. fine ≡ firstOf (readRows bytes 3072 2048) fine) image-is
+    (read-written-fine 1 1 words vectors 20508 3072 2048 written (omega arith) (omega arith))
+
+pub longest-read : askRead longestJob (replicate 3072 9) (replicate 2048 9) ≡ answered (1 ∷ 1 ∷ 1024 ∷ 2048 ∷ [])
+unfolding gateCount
+longest-read =
+    sym (fine-all (readRows longestJob 3072 2048) _ passed)
+    ∙ (λ i. answered (holds .lines i ∷ holds .classes i ∷ holds .gates i ∷ holds .vectors i ∷ []))
+
+report-is : reportText longestJob ≡ jobText 1 1 words vectors
+unfolding reportText
+report-is =
+    sym (ap (λ told. textOf told (jobText (linesIn longestJob) (classesIn longestJob) (gateWords longestJob) (vectorWords longestJob))) passed)
+    ∙ (λ i. jobText (holds .lines i) (holds .classes i) (holds .gate-words i) (holds .vector-words i))
+
+-- J 1 1024 2048
+pub longest-reported : take 14 (reportText longestJob) ≡ 74 ∷ 32 ∷ 49 ∷ 32 ∷ 49 ∷ 48 ∷ 50 ∷ 52 ∷ 32 ∷ 50 ∷ 48 ∷ 52 ∷ 56 ∷ 10 ∷ []
+unfolding jobText digit decimalIn decimal spaced line each gatesOf
+longest-reported = ap (take 14) report-is

@@ -1,0 +1,45 @@
+-- The one claim: every row of every table is right, and the longest job is taken.
+use mathlib.Core.Path.{_≡_}
+use mathlib.Core.List.{[], _∷_}
+use lib.ListN.{take, replicate}
+use Rattle.basics.specs.Lists.{All}
+use Rattle.refusals.specs.Tables.Told.{answered}
+use Rattle.report_text.specs.Report.{reportText}
+use Rattle.borders.specs.Rows.{Right}
+use Rattle.borders.specs.Calls.{askRead}
+use Rattle.borders.specs.Answers.{answerTable}
+use Rattle.borders.specs.Circuit.{circuitTable}
+use Rattle.borders.specs.Faults.{faultTable}
+use Rattle.borders.specs.Meanings.{meaningTable}
+use Rattle.borders.specs.Multiple.{multipleTable}
+use Rattle.borders.specs.Judging.{judgeTable}
+use Rattle.borders.specs.Dropping.{dropTable}
+use Rattle.borders.specs.Sets.{setTable}
+use Rattle.borders.specs.Images.{longestJob}
+use Rattle.borders.specs.Reading.{readTable}
+use Rattle.borders.specs.Writing.{writeTable}
+use Rattle.borders.specs.Reports.{reportTable}
+use Rattle.borders.specs.Orders.{orderTable}
+use Rattle.borders.specs.JobOrders.{jobOrderTable}
+use Rattle.borders.specs.Long.{longTable, longOrderTable}
+
+pub record Borders : Type 0 where
+  pub answers : All Right answerTable
+  pub circuits : All Right circuitTable
+  pub faults : All Right faultTable
+  pub meanings : All Right meaningTable
+  pub multiple-faults : All Right multipleTable
+  pub judging : All Right judgeTable
+  pub dropping : All Right dropTable
+  pub sets : All Right setTable
+  pub reading : All Right readTable
+  pub writing : All Right writeTable
+  pub reports : All Right reportTable
+  pub orders : All Right orderTable
+  pub job-orders : All Right jobOrderTable
+  pub long-lists : All Right longTable
+  pub long-orders : All Right longOrderTable
+  -- the longest job is read into the least room for it: 1 line, class 1, 1,024 gates, 2,048 vectors
+  pub longest-read : askRead longestJob (replicate 3072 9) (replicate 2048 9) ≡ answered (1 ∷ 1 ∷ 1024 ∷ 2048 ∷ [])
+  -- and reported: J 1 1024 2048
+  pub longest-reported : take 14 (reportText longestJob) ≡ 74 ∷ 32 ∷ 49 ∷ 32 ∷ 49 ∷ 48 ∷ 50 ∷ 52 ∷ 32 ∷ 50 ∷ 48 ∷ 52 ∷ 56 ∷ 10 ∷ []

@@ -1,0 +1,83 @@
+-- What a fault does and which vectors catch it, the test of each class's faults, and the order of each class's list, on the sample circuit.
+use Prim.Native.Nat.{ℕ}
+use mathlib.Core.List.{List, [], _∷_}
+use Rattle.basics.specs.Lists.{upFrom, keep}
+use Rattle.refusals.specs.Tables.Told.{answered}
+use Rattle.simulator.specs.Faulty.{caught}
+use Rattle.faults.specs.declared.Fault.{Fault}
+use Rattle.faults.specs.Classes.{classFaults}
+use Rattle.dropping.specs.Dropping.{wordsOf}
+use Rattle.circuit.specs.Gates.{gatesOf}
+use Rattle.proved_samples.specs.Sample.{sampleWords}
+use Rattle.borders.specs.Rows.{Row}
+use Rattle.borders.specs.Rows.Row.{_tells_, _gives_}
+use Rattle.borders.specs.Calls.{fault, askFaultyRun, askTest}
+
+-- the vectors of 3 lines that catch a fault of the sample circuit
+abbrev pub catching : Fault → List ℕ
+catching f = keep (caught (gatesOf sampleWords) f) (upFrom 0 8)
+
+-- the faults of a class in their order, four numbers each: class, place, line, value
+abbrev pub faultsIn : ℕ → List ℕ → ℕ → List ℕ
+faultsIn n words class = wordsOf (classFaults n (gatesOf words) class)
+
+unfoldable pub meaningTable : List Row
+meaningTable =
+    -- the output with a fault in the circuit; without one, 3 gives 5 and 1 gives 3
+    askFaultyRun 3 sampleWords 3 (fault 1 0 0 0) tells answered (2 ∷ []) ∷
+    askFaultyRun 3 sampleWords 3 (fault 1 1 2 0) tells answered (1 ∷ []) ∷
+    askFaultyRun 3 sampleWords 3 (fault 1 2 1 1) tells answered (7 ∷ []) ∷
+    askFaultyRun 3 sampleWords 3 (fault 2 1 0 0) tells answered (1 ∷ []) ∷
+    askFaultyRun 3 sampleWords 3 (fault 2 2 0 0) tells answered (7 ∷ []) ∷
+    askFaultyRun 3 sampleWords 2 (fault 3 1 0 0) tells answered (6 ∷ []) ∷
+    askFaultyRun 3 sampleWords 1 (fault 3 1 1 0) tells answered (7 ∷ []) ∷
+    askFaultyRun 3 sampleWords 0 (fault 3 2 0 0) tells answered (2 ∷ []) ∷
+    askFaultyRun 3 sampleWords 1 (fault 4 2 2 0) tells answered (1 ∷ []) ∷
+    -- the vectors that catch a stuck line
+    catching (fault 1 0 0 0) gives (1 ∷ 3 ∷ 5 ∷ 7 ∷ []) ∷
+    catching (fault 1 0 0 1) gives (0 ∷ 2 ∷ 4 ∷ 6 ∷ []) ∷
+    catching (fault 1 1 2 0) gives (3 ∷ 4 ∷ 5 ∷ 6 ∷ []) ∷
+    catching (fault 1 1 2 1) gives (0 ∷ 1 ∷ 2 ∷ 7 ∷ []) ∷
+    catching (fault 1 2 1 0) gives (1 ∷ 2 ∷ 5 ∷ 6 ∷ []) ∷
+    catching (fault 1 2 1 1) gives (0 ∷ 3 ∷ 4 ∷ 7 ∷ []) ∷
+    -- a missing gate, a missing control, an extra control
+    catching (fault 2 1 0 0) gives (3 ∷ 7 ∷ []) ∷
+    catching (fault 2 2 0 0) gives (1 ∷ 3 ∷ 5 ∷ 7 ∷ []) ∷
+    catching (fault 3 1 0 0) gives (2 ∷ 6 ∷ []) ∷
+    catching (fault 3 1 1 0) gives (1 ∷ 5 ∷ []) ∷
+    catching (fault 3 2 0 0) gives (0 ∷ 2 ∷ 4 ∷ 6 ∷ []) ∷
+    catching (fault 4 2 2 0) gives (1 ∷ 7 ∷ []) ∷
+    -- the test of a stuck line: all lines 1 at its level, or the line itself 0 for stuck-at-1, run backward
+    askTest 3 sampleWords (fault 1 0 0 0) tells answered (7 ∷ []) ∷
+    askTest 3 sampleWords (fault 1 0 0 1) tells answered (6 ∷ []) ∷
+    askTest 3 sampleWords (fault 1 0 2 1) tells answered (3 ∷ []) ∷
+    askTest 3 sampleWords (fault 1 1 2 0) tells answered (3 ∷ []) ∷
+    askTest 3 sampleWords (fault 1 1 2 1) tells answered (7 ∷ []) ∷
+    askTest 3 sampleWords (fault 1 2 1 0) tells answered (5 ∷ []) ∷
+    askTest 3 sampleWords (fault 1 2 1 1) tells answered (3 ∷ []) ∷
+    -- of a missing gate: all lines 1 at the level it reads
+    askTest 3 sampleWords (fault 2 1 0 0) tells answered (7 ∷ []) ∷
+    askTest 3 sampleWords (fault 2 2 0 0) tells answered (3 ∷ []) ∷
+    -- of a missing and of an extra control: the named line 0 there
+    askTest 3 sampleWords (fault 3 1 0 0) tells answered (6 ∷ []) ∷
+    askTest 3 sampleWords (fault 3 1 1 0) tells answered (5 ∷ []) ∷
+    askTest 3 sampleWords (fault 3 2 0 0) tells answered (6 ∷ []) ∷
+    askTest 3 sampleWords (fault 4 2 2 0) tells answered (7 ∷ []) ∷
+    -- class 1: by level, then line, then value 0 before 1
+    faultsIn 1 [] 1 gives (1 ∷ 0 ∷ 0 ∷ 0 ∷ 1 ∷ 0 ∷ 0 ∷ 1 ∷ []) ∷
+    faultsIn 3 sampleWords 1 gives (
+    1 ∷ 0 ∷ 0 ∷ 0 ∷ 1 ∷ 0 ∷ 0 ∷ 1 ∷ 1 ∷ 0 ∷ 1 ∷ 0 ∷ 1 ∷ 0 ∷ 1 ∷ 1 ∷ 1 ∷ 0 ∷ 2 ∷ 0 ∷ 1 ∷ 0 ∷ 2 ∷ 1 ∷
+    1 ∷ 1 ∷ 0 ∷ 0 ∷ 1 ∷ 1 ∷ 0 ∷ 1 ∷ 1 ∷ 1 ∷ 1 ∷ 0 ∷ 1 ∷ 1 ∷ 1 ∷ 1 ∷ 1 ∷ 1 ∷ 2 ∷ 0 ∷ 1 ∷ 1 ∷ 2 ∷ 1 ∷
+    1 ∷ 2 ∷ 0 ∷ 0 ∷ 1 ∷ 2 ∷ 0 ∷ 1 ∷ 1 ∷ 2 ∷ 1 ∷ 0 ∷ 1 ∷ 2 ∷ 1 ∷ 1 ∷ 1 ∷ 2 ∷ 2 ∷ 0 ∷ 1 ∷ 2 ∷ 2 ∷ 1 ∷ []) ∷
+    -- class 2: by gate
+    faultsIn 3 [] 2 gives [] ∷
+    faultsIn 3 sampleWords 2 gives (2 ∷ 1 ∷ 0 ∷ 0 ∷ 2 ∷ 2 ∷ 0 ∷ 0 ∷ []) ∷
+    -- class 3: by gate, then control; on 4 lines, gate 1 with controls 2 and 3 and target 0, gate 2 with control 0 and target 2
+    faultsIn 3 sampleWords 3 gives (3 ∷ 1 ∷ 0 ∷ 0 ∷ 3 ∷ 1 ∷ 1 ∷ 0 ∷ 3 ∷ 2 ∷ 0 ∷ 0 ∷ []) ∷
+    faultsIn 4 (12 ∷ 0 ∷ 0 ∷ 1 ∷ 0 ∷ 2 ∷ []) 3 gives (3 ∷ 1 ∷ 2 ∷ 0 ∷ 3 ∷ 1 ∷ 3 ∷ 0 ∷ 3 ∷ 2 ∷ 0 ∷ 0 ∷ []) ∷
+    -- class 4: by gate, then line that is neither control nor target
+    faultsIn 3 sampleWords 4 gives (4 ∷ 2 ∷ 2 ∷ 0 ∷ []) ∷
+    faultsIn 4 (12 ∷ 0 ∷ 0 ∷ 1 ∷ 0 ∷ 2 ∷ []) 4 gives (4 ∷ 1 ∷ 1 ∷ 0 ∷ 4 ∷ 2 ∷ 1 ∷ 0 ∷ 4 ∷ 2 ∷ 3 ∷ 0 ∷ []) ∷
+    -- there is no other class
+    faultsIn 3 sampleWords 0 gives [] ∷
+    faultsIn 3 sampleWords 5 gives [] ∷ []

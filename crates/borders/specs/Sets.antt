@@ -1,0 +1,62 @@
+-- The backward set and the compact set: rules 10 and 11, what is told, and what the room holds after.
+use mathlib.Core.List.{List, [], _∷_}
+use Rattle.refusals.specs.Tables.{firstOf}
+use Rattle.refusals.specs.Tables.Told.{answered, refused}
+use Rattle.testsets.specs.Rules.{compactRows}
+use Rattle.testsets.specs.Log2.{log2}
+use Rattle.faults.specs.Sites.{siteCount}
+use Rattle.testsets.specs.Sets.{bound}
+use Rattle.circuit.specs.Gates.{gatesOf}
+use Rattle.proved_samples.specs.Sample.{sampleWords}
+use Rattle.borders.specs.Rows.{Row}
+use Rattle.borders.specs.Rows.Row.{_tells_, _gives_}
+use Rattle.borders.specs.Calls.{askBackwardSet, afterBackwardSet, askCompactSet, afterCompactSet}
+
+unfoldable pub setTable : List Row
+setTable =
+    -- the backward set, room d + 2; what lies beyond keeps its contents, and a refusal leaves all
+    askBackwardSet 3 sampleWords (9 ∷ 9 ∷ 9 ∷ []) tells refused 10 0 ∷
+    askBackwardSet 3 sampleWords (9 ∷ 9 ∷ 9 ∷ 9 ∷ []) tells answered (4 ∷ []) ∷
+    afterBackwardSet 3 sampleWords (9 ∷ 9 ∷ 9 ∷ []) gives (9 ∷ 9 ∷ 9 ∷ []) ∷
+    afterBackwardSet 3 sampleWords (9 ∷ 9 ∷ 9 ∷ 9 ∷ []) gives (0 ∷ 7 ∷ 3 ∷ 5 ∷ []) ∷
+    afterBackwardSet 3 sampleWords (9 ∷ 9 ∷ 9 ∷ 9 ∷ 8 ∷ 6 ∷ []) gives (0 ∷ 7 ∷ 3 ∷ 5 ∷ 8 ∷ 6 ∷ []) ∷
+    askBackwardSet 1 [] (9 ∷ []) tells refused 10 0 ∷
+    askBackwardSet 1 [] (9 ∷ 9 ∷ []) tells answered (2 ∷ []) ∷
+    afterBackwardSet 1 [] (9 ∷ 9 ∷ 9 ∷ []) gives (0 ∷ 1 ∷ 9 ∷ []) ∷
+    afterBackwardSet 32 (0 ∷ 0 ∷ 0 ∷ []) (9 ∷ 9 ∷ 9 ∷ []) gives (0 ∷ 4294967295 ∷ 4294967295 ∷ []) ∷
+    askBackwardSet 0 [] (9 ∷ 9 ∷ []) tells refused 3 0 ∷
+    askBackwardSet 32 [] (9 ∷ 9 ∷ []) tells answered (2 ∷ []) ∷
+    askBackwardSet 33 [] (9 ∷ 9 ∷ []) tells refused 3 0 ∷
+    askBackwardSet 3 (3 ∷ 0 ∷ 2 ∷ 8 ∷ 0 ∷ 1 ∷ []) (9 ∷ 9 ∷ 9 ∷ 9 ∷ []) tells refused 7 2 ∷
+    -- the compact set, room 2 + floor(log2 S), even where fewer are found
+    (siteCount 3 (gatesOf sampleWords) ∷ bound 3 (gatesOf sampleWords) ∷ []) gives (9 ∷ 5 ∷ []) ∷
+    askCompactSet 3 sampleWords (9 ∷ 9 ∷ 9 ∷ 9 ∷ []) tells refused 10 0 ∷
+    askCompactSet 3 sampleWords (9 ∷ 9 ∷ 9 ∷ 9 ∷ 9 ∷ []) tells answered (3 ∷ []) ∷
+    afterCompactSet 3 sampleWords (9 ∷ 9 ∷ 9 ∷ 9 ∷ []) gives (9 ∷ 9 ∷ 9 ∷ 9 ∷ []) ∷
+    afterCompactSet 3 sampleWords (9 ∷ 9 ∷ 9 ∷ 9 ∷ 9 ∷ []) gives (0 ∷ 3 ∷ 5 ∷ 9 ∷ 9 ∷ []) ∷
+    afterCompactSet 3 sampleWords (9 ∷ 9 ∷ 9 ∷ 9 ∷ 9 ∷ 8 ∷ []) gives (0 ∷ 3 ∷ 5 ∷ 9 ∷ 9 ∷ 8 ∷ []) ∷
+    afterCompactSet 2 (1 ∷ 0 ∷ 1 ∷ []) (9 ∷ 9 ∷ 9 ∷ 9 ∷ []) gives (0 ∷ 1 ∷ 2 ∷ 9 ∷ []) ∷
+    -- S = 1, 2, 3, 4, 7 and 8
+    (log2 1 ∷ log2 2 ∷ log2 3 ∷ log2 4 ∷ log2 7 ∷ log2 8 ∷ log2 12300 ∷ log2 0 ∷ []) gives (0 ∷ 1 ∷ 1 ∷ 2 ∷ 2 ∷ 3 ∷ 13 ∷ 0 ∷ []) ∷
+    askCompactSet 1 [] (9 ∷ []) tells refused 10 0 ∷
+    askCompactSet 1 [] (9 ∷ 9 ∷ []) tells answered (2 ∷ []) ∷
+    afterCompactSet 1 [] (9 ∷ 9 ∷ []) gives (0 ∷ 1 ∷ []) ∷
+    askCompactSet 2 [] (9 ∷ 9 ∷ []) tells refused 10 0 ∷
+    askCompactSet 2 [] (9 ∷ 9 ∷ 9 ∷ []) tells answered (2 ∷ []) ∷
+    askCompactSet 3 [] (9 ∷ 9 ∷ []) tells refused 10 0 ∷
+    askCompactSet 3 [] (9 ∷ 9 ∷ 9 ∷ []) tells answered (2 ∷ []) ∷
+    askCompactSet 4 [] (9 ∷ 9 ∷ 9 ∷ []) tells refused 10 0 ∷
+    askCompactSet 4 [] (9 ∷ 9 ∷ 9 ∷ 9 ∷ []) tells answered (2 ∷ []) ∷
+    firstOf (compactRows 7 [] 3) (answered []) tells refused 10 0 ∷
+    firstOf (compactRows 7 [] 4) (answered []) tells answered [] ∷
+    firstOf (compactRows 8 [] 4) (answered []) tells refused 10 0 ∷
+    firstOf (compactRows 8 [] 5) (answered []) tells answered [] ∷
+    -- rule 11: at most 12 lines, whatever the room
+    firstOf (compactRows 12 [] 4) (answered []) tells refused 10 0 ∷
+    firstOf (compactRows 12 [] 5) (answered []) tells answered [] ∷
+    firstOf (compactRows 13 [] 4) (answered []) tells refused 11 0 ∷
+    firstOf (compactRows 13 [] 5) (answered []) tells refused 11 0 ∷
+    firstOf (compactRows 32 [] 7) (answered []) tells refused 11 0 ∷
+    firstOf (compactRows 0 [] 5) (answered []) tells refused 3 0 ∷
+    firstOf (compactRows 33 [] 5) (answered []) tells refused 3 0 ∷
+    askCompactSet 3 (3 ∷ 0 ∷ 2 ∷ 8 ∷ 0 ∷ 1 ∷ []) (9 ∷ 9 ∷ 9 ∷ 9 ∷ 9 ∷ []) tells refused 7 2 ∷ []
