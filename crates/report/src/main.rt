@@ -4,18 +4,14 @@ ghost use mathlib.Core.Path.{_≡_};
 ghost use Prim.Native.Nat.{_≤_};
 ghost use lib.ListN.{length, take};
 ghost use Rattle.io.specs.Counts.{Counts};
-ghost use Rattle.report_text.specs.Report.{reportText};
-ghost use Rattle.report.specs.Room.{room};
+ghost use Rattle.report_text.specs.Report.{reportText, inputRoom};
 ghost use Rattle.report.specs.Input.{Within};
 use libc::STDERR_FILENO;
 use libc::STDIN_FILENO;
 use libc::STDOUT_FILENO;
 use report_text::Reported;
-
-// One byte more than the longest job, which tells any input that is longer: `room` of specs/Room.antt.
-const ROOM: usize = 20509;
-
-const LONGEST_REPORT: usize = 100;
+use report_text::limits::INPUT_ROOM;
+use report_text::limits::LONGEST_REPORT;
 
 // How many bytes were read, or that a read failed.
 enum Input {
@@ -24,7 +20,7 @@ enum Input {
 }
 
 fn main() {
-    let mut job = [0u8; ROOM];
+    let mut job = [0u8; INPUT_ROOM];
     let Input::Bytes(length) = read_input(&mut job) else {
         io::write_all(STDERR_FILENO, b"report: the input could not be read\n");
         return;
@@ -57,8 +53,8 @@ fn read_input(job: &mut [u8]) -> Input
 }
 
 // The report on the bytes that were read, and where it ends. There is room for any, so the call answers.
-fn text_of(job: &[u8; ROOM], length: usize, text: &mut [u8; LONGEST_REPORT]) -> usize
-    requires { ⌜ length ≤ room ⌝ }
+fn text_of(job: &[u8; INPUT_ROOM], length: usize, text: &mut [u8; LONGEST_REPORT]) -> usize
+    requires { ⌜ length ≤ inputRoom ⌝ }
     ensures { λ r. ⌜ Counts r (now (text .exit)) ⌝ }
     ensures { λ r. ⌜ take r (now (text .exit)) ≡ reportText (take length (now (job .entry))) ⌝ }
 {

@@ -1,5 +1,5 @@
 -- The report's text, from any bytes at all.
-use Prim.Native.Nat.{ℕ, _*_}
+use Prim.Native.Nat.{ℕ, suc, _*_}
 use mathlib.Core.List.{List, [], _∷_, _++_}
 use lib.ListN.{length}
 use lib.Dec.{eqb}
@@ -14,7 +14,7 @@ use Rattle.circuit.specs.declared.Gate.{Gate}
 use Rattle.faults.specs.declared.Fault.{Fault}
 use Rattle.faults.specs.Classes.{classFaults}
 use Rattle.judge.specs.Judging.{caughtOf, uncaughtOf}
-use Rattle.job.specs.Image.{linesIn, classesIn, gateWords, vectorWords}
+use Rattle.job.specs.Image.{longestJob, linesIn, classesIn, gateWords, vectorWords}
 use Rattle.job.specs.Rules.{readRows}
 use Rattle.job.specs.Wanted.{wanted}
 use Rattle.report_text.specs.Lines.{spaced, line}
@@ -71,3 +71,7 @@ reportText bytes = textOf (firstOf (jobRows bytes) fine) (jobText (linesIn bytes
 -- how many bytes the longest report has
 abbrev pub longestReport : ℕ
 longestReport = 100
+
+-- as many bytes of an input as tell its report: one more than the longest job has, which tells any longer input
+abbrev pub inputRoom : ℕ
+inputRoom = suc longestJob

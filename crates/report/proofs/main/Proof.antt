@@ -1,6 +1,5 @@
 -- `report::main` meets its contract: what was read is within the room, which is the one that the text's promise asks for. Assumes nothing.
 use borrow.Author.Needs.{needs}
-use Rattle.report.specs.Room.{room, longestJob}
 use Rattle.report.proofs.main.Statement.{statement}
 use Rattle.report.proofs.main.Tie as tie
 
@@ -26,7 +25,6 @@ returns : tie.Need-returns
 returns c = search needs
 
 text-of-requires : tie.Need-text-of-requires
-unfolding room longestJob
 text-of-requires c κs =
     let read = c .before .before .before .before .before .before .read-input .ensures in
     rw (c .before .before .before .length .given .1) at read

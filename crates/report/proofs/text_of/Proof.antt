@@ -8,13 +8,11 @@ use borrow.Author.Tests.{le-ltb}
 use Rattle.report_text.specs.Report.{reportText}
 use Rattle.report_text.specs.Rules.{reportRows}
 use Rattle.report_text.proofs.ReportLaws.{report-fits}
-use Rattle.report.specs.Room.{room, longestJob}
 use Rattle.report.proofs.TextLaws.{told-number, never-refused, front-of}
 use Rattle.report.proofs.text_of.Statement.{statement}
 use Rattle.report.proofs.text_of.Tie as tie
 
 slice-aggregate-report : tie.Need-slice-aggregate-report
-unfolding room longestJob
 slice-aggregate-report c = let a = c .before .before .args in sym (length-take-le (a .length) (a .job .now) (omega (arith, c .before .before .pre)))
 
 report-requires : tie.Need-report-requires
