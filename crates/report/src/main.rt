@@ -13,6 +13,9 @@ use report_text::Reported;
 use report_text::limits::INPUT_ROOM;
 use report_text::limits::LONGEST_REPORT;
 
+// What is read of an input: as much as tells its report.
+const ROOM: usize = INPUT_ROOM;
+
 // How many bytes were read, or that a read failed.
 enum Input {
     Bytes(usize),
@@ -20,7 +23,7 @@ enum Input {
 }
 
 fn main() {
-    let mut job = [0u8; INPUT_ROOM];
+    let mut job = [0u8; ROOM];
     let Input::Bytes(length) = read_input(&mut job) else {
         io::write_all(STDERR_FILENO, b"report: the input could not be read\n");
         return;
@@ -53,7 +56,7 @@ fn read_input(job: &mut [u8]) -> Input
 }
 
 // The report on the bytes that were read, and where it ends. There is room for any, so the call answers.
-fn text_of(job: &[u8; INPUT_ROOM], length: usize, text: &mut [u8; LONGEST_REPORT]) -> usize
+fn text_of(job: &[u8; ROOM], length: usize, text: &mut [u8; LONGEST_REPORT]) -> usize
     requires { ⌜ length ≤ inputRoom ⌝ }
     ensures { λ r. ⌜ Counts r (now (text .exit)) ⌝ }
     ensures { λ r. ⌜ take r (now (text .exit)) ≡ reportText (take length (now (job .entry))) ⌝ }
