@@ -34,14 +34,14 @@ use Rattle.marking.specs.Marks.{caughtLines, caughtAtGate}
 use Rattle.marking.proofs.FaultLines.{line-zero, stuck-here, none-here, gate-here, control-here, other-here}
 
 -- a line stuck at a level
-stuck-of : (n : ℕ) (gs : List Gate) (i j v : ℕ) → i ≤ length gs → j < n → v ≤ 1 → StuckOk n (length gs) (faultOf 1 i j v)
+pub stuck-of : (n : ℕ) (gs : List Gate) (i j v : ℕ) → i ≤ length gs → j < n → v ≤ 1 → StuckOk n (length gs) (faultOf 1 i j v)
 unfolding faultOf
 stuck-of n gs i j v p l h = record { class-is = refl; place-in = p; line-in = l; value-in = h }
 
 module _ (n : ℕ) (gs : List Gate) (ok : AllOk n gs) (x i : ℕ) where
   -- ---- a level: stuck at 0, the sites that should be 1, and stuck at 1, those that should be 0
 
-  caught-stuck : (j v : ℕ) → i ≤ length gs → j < n → v ≤ 1 → caught gs (faultOf 1 i j v) x ≡ not (eqb (bit (forward gs i x) j) v)
+  pub caught-stuck : (j v : ℕ) → i ≤ length gs → j < n → v ≤ 1 → caught gs (faultOf 1 i j v) x ≡ not (eqb (bit (forward gs i x) j) v)
   unfolding faultOf
   caught-stuck j v h l u = stuck-caught n gs ok (faultOf 1 i j v) (stuck-of n gs i j v h l u) x
 

@@ -9,17 +9,16 @@ use Rattle.circuit.specs.Gates.{gatesOf}
 use Rattle.circuit.specs.Controls.{lessControl, moreControl}
 use Rattle.circuit.specs.Runs.{fires, step, run, forward, backward}
 use Rattle.simulator.specs.Faulty.{forceAt, stuckRun, without, changed, faulty, caught}
-use Rattle.faults.specs.Sites.{sites}
+use Rattle.faults.specs.Sites.{sites, siteCount}
 use Rattle.faults.specs.Classes.{faultOf, stuckFaults, classFaults}
-use Rattle.judge.specs.Judging.{caughtBySome, left, verdict}
+use Rattle.judge.specs.Judging.{caughtBySome, uncaughtOf, verdict}
 use Rattle.testsets.specs.Log2.{log2In, log2}
 use Rattle.testsets.specs.Sets.{score, bestOf, best, picks, bound, compactSet, backwardInput, backwardSet}
-use Rattle.faults.specs.Sites.{siteCount}
 use Rattle.proved_samples.specs.Sample.{sampleWords, sample}
-use Rattle.proved_samples.specs.Table.{levels, catching, judged, table, holds}
+use Rattle.proved_samples.specs.Table.{states, catching, judged, table, holds}
 
 pub bench-table : holds table ≡ true
-unfolding sampleWords sample levels catching judged table upFrom keep each some sumFrom bit flip force allOn allOnes linesOn inverse gatesOf
+unfolding sampleWords sample states catching judged table upFrom keep each some sumFrom bit flip force allOn allOnes linesOn inverse gatesOf
     lessControl moreControl fires step run forward backward forceAt stuckRun without changed faulty caught sites faultOf stuckFaults
-    classFaults caughtBySome left verdict log2In log2 score bestOf best picks siteCount bound compactSet backwardInput backwardSet
+    classFaults caughtBySome uncaughtOf verdict log2In log2 score bestOf best picks siteCount bound compactSet backwardInput backwardSet
 bench-table = refl

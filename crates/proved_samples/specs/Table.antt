@@ -9,8 +9,8 @@ use Rattle.refusals.specs.Tables.Told.{answered, refused}
 use Rattle.circuit.specs.Runs.{forward, backward}
 use Rattle.simulator.specs.Faulty.{caught}
 use Rattle.faults.specs.declared.Fault.{Fault}
-use Rattle.faults.specs.Classes.{classFaults}
-use Rattle.judge.specs.Judging.{caughtBySome, verdict}
+use Rattle.faults.specs.Classes.{faultOf}
+use Rattle.judge.specs.Judging.{setVerdict}
 use Rattle.faults.specs.Sites.{siteCount}
 use Rattle.testsets.specs.Sets.{bound, compactSet, backwardSet}
 use Rattle.proved_samples.specs.Sample.{sample}
@@ -25,8 +25,8 @@ values (answered vs) = vs
 values (refused number place) = []
 
 -- the states of an input at levels 0, 1 and 2
-unfoldable pub levels : ℕ → List ℕ
-levels x = forward sample 0 x ∷ forward sample 1 x ∷ forward sample 2 x ∷ []
+unfoldable pub states : ℕ → List ℕ
+states x = forward sample 0 x ∷ forward sample 1 x ∷ forward sample 2 x ∷ []
 
 -- the inputs that catch a fault
 unfoldable pub catching : Fault → List ℕ
@@ -34,23 +34,23 @@ catching f = keep (caught sample f) (upFrom 0 8)
 
 -- the verdict on a set for class 1: number caught, number in the class, complete, first uncaught fault
 unfoldable pub judged : List ℕ → List ℕ
-judged xs = values (verdict (caughtBySome sample xs) (classFaults 3 sample 1))
+judged xs = values (setVerdict 3 sample xs 1)
 
 unfoldable pub table : List Row
 table =
-    -- levels of an input
-    levels 3 gives (3 ∷ 7 ∷ 5 ∷ []) ∷
-    levels 7 gives (7 ∷ 3 ∷ 1 ∷ []) ∷
-    levels 1 gives (1 ∷ 1 ∷ 3 ∷ []) ∷
-    levels 6 gives (6 ∷ 6 ∷ 6 ∷ []) ∷
+    -- the states of an input
+    states 3 gives (3 ∷ 7 ∷ 5 ∷ []) ∷
+    states 7 gives (7 ∷ 3 ∷ 1 ∷ []) ∷
+    states 1 gives (1 ∷ 1 ∷ 3 ∷ []) ∷
+    states 6 gives (6 ∷ 6 ∷ 6 ∷ []) ∷
     -- backward from level 2 and from level 1, state 7
     (backward sample 2 7 ∷ []) gives (5 ∷ []) ∷
     (backward sample 1 7 ∷ []) gives (3 ∷ []) ∷
     -- gate 1 missing; gate 1 without control 0; gate 2 with extra line 2
-    catching (record { class = 2; place = 1; line = 0; value = 0 }) gives (3 ∷ 7 ∷ []) ∷
-    catching (record { class = 3; place = 1; line = 0; value = 0 }) gives (2 ∷ 6 ∷ []) ∷
-    catching (record { class = 4; place = 2; line = 2; value = 0 }) gives (1 ∷ 7 ∷ []) ∷
-    -- sets that are not stuck-at complete, and the first fault that they leave
+    catching (faultOf 2 1 0 0) gives (3 ∷ 7 ∷ []) ∷
+    catching (faultOf 3 1 0 0) gives (2 ∷ 6 ∷ []) ∷
+    catching (faultOf 4 2 2 0) gives (1 ∷ 7 ∷ []) ∷
+    -- sets that are not stuck-at complete, and the first fault that they do not catch
     judged (0 ∷ 7 ∷ []) gives (15 ∷ 18 ∷ 0 ∷ 1 ∷ 1 ∷ 2 ∷ 0 ∷ []) ∷
     judged (0 ∷ 7 ∷ 3 ∷ []) gives (17 ∷ 18 ∷ 0 ∷ 1 ∷ 2 ∷ 1 ∷ 0 ∷ []) ∷
     -- the backward set; the compact set, the number of sites and the bound

@@ -12,7 +12,7 @@ use lib.Seq.{drop-set-lt}
 use lib.Bits.{bitXor}
 use lib.Dec.{lit<}
 use borrow.Author.Tests.{ne-eqb}
-use Rattle.basics.specs.Lists.{upFrom, All}
+use Rattle.basics.specs.Lists.{upFrom, All, onto}
 use Rattle.basics.proofs.Tests.{by-equal}
 use Rattle.basics.proofs.All.{all-of, all-over, all-mapped}
 use Rattle.basics.proofs.Lists.{entry-some, upFrom-all, length-upFrom, map-upFrom-at}
@@ -27,11 +27,11 @@ use Rattle.circuit.specs.Sound.{AllOk}
 use Rattle.circuit.specs.declared.Gate.{Gate}
 use Rattle.circuit.proofs.RunLaws.{forward-lt, backward-lt, forward-backward, backward-none, onward-none, onward-forward}
 use Rattle.simulator.specs.Faulty.{caught}
-use Rattle.simulator.proofs.FaultyLaws.{stuck-caught}
 use Rattle.faults.specs.Classes.{faultOf}
 use Rattle.judge.specs.Judging.{caughtBySome}
 use Rattle.testsets.specs.Sets.{Complete, backwardInput, backwardSet}
-use Rattle.testsets.proofs.SetLaws.{complete-iff, stuck-of}
+use Rattle.testsets.proofs.SetLaws.{complete-iff}
+use Rattle.marking.proofs.MarkLaws.{caught-stuck}
 use Rattle.faults.proofs.SiteCount.{site-below}
 
 -- what the vector of level i gives there
@@ -62,10 +62,7 @@ backward-set-has-zero n gs = List·Memᴰ·head refl
 -- a vector that gives the line the other value catches the fault
 catches : (n : ℕ) (gs : List Gate) → AllOk n gs → (i j v : ℕ) → i ≤ length gs → j < n → v ≤ 1 → (x : ℕ) → bit (forward gs i x) j ≢ v
     → caught gs (faultOf 1 i j v) x ≡ true
-unfolding faultOf
-catches n gs ok i j v hi hj hv x d =
-    stuck-caught n gs ok (faultOf 1 i j v) (stuck-of n gs i j v hi hj hv) x
-    ∙ ap not (ne-eqb (bit (forward gs i x) j) v d)
+catches n gs ok i j v hi hj hv x d = caught-stuck n gs ok x i j v hi hj hv ∙ ap not (ne-eqb (bit (forward gs i x) j) v d)
 
 -- of all zeros and the vector of level i one gives line j the other value than v
 pub backward-complete : (n : ℕ) (gs : List Gate) → AllOk n gs → Complete n gs (backwardSet n gs)
@@ -140,7 +137,7 @@ module _ (n : ℕ) (gs : List Gate) (ones : ℕ) (ones-are : ones ≡ allOnes n)
 
 -- after the last turn the whole set stands there
 pub backward-end : (n : ℕ) (gs : List Gate) (old now : List ℕ) (i : ℕ) → i ≡ length gs → now ≡ take (i + 2) (backwardSet n gs) ++ drop (i + 2) old
-    → now ≡ backwardSet n gs ++ drop (length (backwardSet n gs)) old
+    → now ≡ onto (backwardSet n gs) old
 backward-end n gs old now i h e = fill-done (backwardSet n gs) old now (i + 2) (omega (arith, backward-length n gs)) e
 
 -- what stands past the set is what stood there

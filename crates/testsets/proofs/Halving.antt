@@ -23,11 +23,11 @@ use Rattle.simulator.specs.Faulty.{caught}
 use Rattle.faults.specs.Entries.{StuckOk}
 use Rattle.faults.specs.declared.Fault.{Fault}
 use Rattle.simulator.proofs.FaultyLaws.{stuck-caught}
-use Rattle.judge.specs.Judging.{left}
+use Rattle.judge.specs.Judging.{uncaughtOf}
 use Rattle.testsets.specs.Sets.{score, bestOf, best}
 use Rattle.testsets.proofs.TotalLaws.{total, total-is-sum, sum-of-counts, total-cong, total-add, total-const, total-flip, total-forward}
 use Rattle.testsets.proofs.TotalLaws.{some-above}
-use Rattle.testsets.proofs.SetLaws.{score-cons, score-left}
+use Rattle.testsets.proofs.SetLaws.{score-cons, score-uncaught}
 
 -- ---- one fault
 
@@ -127,9 +127,9 @@ pub best-half : (n : ℕ) (gs : List Gate) → AllOk n gs → (fs : List Fault) 
 best-half n gs ok fs w = let r = some-half n gs ok fs w in omega (arith, best-above n gs fs (r .0) (r .1))
 
 -- so at most half is left
-pub half-left : (n : ℕ) (gs : List Gate) → AllOk n gs → (fs : List Fault) → All (StuckOk n (length gs)) fs
-    → 2 * length (left gs (best n gs fs ∷ []) fs) ≤ length fs
-half-left n gs ok fs w = omega (arith, best-half n gs ok fs w, score-left gs fs (best n gs fs))
+pub half-uncaught : (n : ℕ) (gs : List Gate) → AllOk n gs → (fs : List Fault) → All (StuckOk n (length gs)) fs
+    → 2 * length (uncaughtOf gs (best n gs fs ∷ []) fs) ≤ length fs
+half-uncaught n gs ok fs w = omega (arith, best-half n gs ok fs w, score-uncaught gs fs (best n gs fs))
 
 -- ---- the best vector, found one after the other; b is the best of those before `next`
 

@@ -22,22 +22,22 @@ use Rattle.words.proofs.Inverse.{not-off, not-on, inverse-code}
 use Rattle.words.proofs.LineLists.{all-lines}
 use Rattle.words.proofs.OrLaws.{on-and}
 use Rattle.words.proofs.SplitLaws.{length-wide, lacking-off, split-lt, split-count}
+use Rattle.circuit.specs.Limits.{mostLines}
 use Rattle.circuit.specs.Runs.{forward}
 use Rattle.circuit.specs.Sound.{AllOk}
 use Rattle.circuit.specs.declared.Gate.{Gate}
 use Rattle.circuit.proofs.RunLaws.{forward-lt}
 use Rattle.faults.specs.Sites.{sites}
 use Rattle.simulator.specs.Faulty.{caught}
-use Rattle.simulator.proofs.FaultyLaws.{stuck-caught}
 use Rattle.faults.specs.Classes.{faultOf, stuckFaults}
 use Rattle.marking.specs.Marks.{levelMarked}
-use Rattle.judge.specs.Judging.{caughtBySome, left}
+use Rattle.judge.specs.Judging.{caughtBySome, uncaughtOf}
 use Rattle.faults.proofs.ClassParts.{all-stuck}
+use Rattle.marking.proofs.MarkLaws.{caught-stuck}
 use Rattle.marking.proofs.Counting.{count-stuck}
 use Rattle.testsets.specs.Sets.{score}
 use Rattle.testsets.specs.Left.{leftOf, AllSites, OnSites, Left}
 use Rattle.faults.proofs.SiteCount.{site-below}
-use Rattle.testsets.proofs.SetLaws.{stuck-of}
 use Rattle.testsets.proofs.Changes.{Changed}
 
 -- ---- at the start
@@ -70,12 +70,10 @@ caughtFrom n gs at0 at1 x i = sumFrom (λ k. length (linesOn n (newlyCaught n gs
 
 module _ (n : ℕ) (gs : List Gate) (ok : AllOk n gs) (at0 at1 : List ℕ) where
   caught-zero : (x i j : ℕ) → i ≤ length gs → j < n → caught gs (faultOf 1 i j 0) x ≡ eqb (bit (forward gs i x) j) 1
-  unfolding faultOf
-  caught-zero x i j h l = stuck-caught n gs ok (faultOf 1 i j 0) (stuck-of n gs i j 0 h l (omega arith)) x ∙ not-off (forward gs i x) j
+  caught-zero x i j h l = caught-stuck n gs ok x i j 0 h l (omega arith) ∙ not-off (forward gs i x) j
 
   caught-one : (x i j : ℕ) → i ≤ length gs → j < n → caught gs (faultOf 1 i j 1) x ≡ eqb (bit (forward gs i x) j) 0
-  unfolding faultOf
-  caught-one x i j h l = stuck-caught n gs ok (faultOf 1 i j 1) (stuck-of n gs i j 1 h l (omega arith)) x ∙ not-on (forward gs i x) j
+  caught-one x i j h l = caught-stuck n gs ok x i j 1 h l (omega arith) ∙ not-on (forward gs i x) j
 
   score-sum : Left n gs at0 at1 → (x : ℕ)
       → score gs (leftOf n gs at0 at1) x ≡ sumFrom (λ k. length (linesOn n (newlyCaught n gs at0 at1 x k))) 0 (suc (length gs))
@@ -101,25 +99,24 @@ module _ (n : ℕ) (gs : List Gate) (ok : AllOk n gs) (at0 at1 : List ℕ) where
       score-sum on x ∙ ap (sumFrom (λ k. length (linesOn n (newlyCaught n gs at0 at1 x k))) 0) all
 
   -- one level, as code counts it
-  pub score-more : (x i s ones : ℕ) → n ≤ 32 → x < 2 ^ n → i ≤ length gs → ones ≡ allOnes n → s ≡ forward gs i x
-      → caughtFrom n gs at0 at1 x i
-      ≡ length (linesOn 32 (bitOr (bitAnd s (getD at0 i 0)) (bitAnd (bitXor s ones) (getD at1 i 0)))) + caughtFrom n gs at0 at1 x (i + 1)
-  score-more x i s ones wide fits h e here =
-      let t : ℕ = forward gs i x in
-      let word : bitOr (bitAnd s (getD at0 i 0)) (bitAnd (bitXor s ones) (getD at1 i 0)) ≡ newlyCaught n gs at0 at1 x i =
-      rw (here, e) (ap (λ w. bitOr (bitAnd t (getD at0 i 0)) (bitAnd w (getD at1 i 0))) (inverse-code n t)) in
-      sum-more (λ k. length (linesOn n (newlyCaught n gs at0 at1 x k))) i (suc (length gs)) (omega arith)
-      ∙ ap (λ m. m + caughtFrom n gs at0 at1 x (i + 1))
-      (sym (ap (λ w. length (linesOn 32 w)) word
-      ∙ length-wide n 32 (newlyCaught n gs at0 at1 x i) wide (split-lt n t (getD at0 i 0) (getD at1 i 0) (forward-lt n gs ok i x fits))))
+  module _ (x i k s ones : ℕ) (wide : n ≤ mostLines) (fits : x < 2 ^ n) (h : i ≤ length gs) (level : k ≡ i) (ones-are : ones ≡ allOnes n)
+      (here : s ≡ forward gs i x) where
+    pub score-more : caughtFrom n gs at0 at1 x i
+        ≡ length (linesOn mostLines (bitOr (bitAnd s (getD at0 k 0)) (bitAnd (bitXor s ones) (getD at1 k 0)))) + caughtFrom n gs at0 at1 x (i + 1)
+    score-more =
+        let t : ℕ = forward gs i x in
+        let word : bitOr (bitAnd s (getD at0 k 0)) (bitAnd (bitXor s ones) (getD at1 k 0)) ≡ newlyCaught n gs at0 at1 x i =
+        rw (level, here, ones-are) (ap (λ w. bitOr (bitAnd t (getD at0 i 0)) (bitAnd w (getD at1 i 0))) (inverse-code n t)) in
+        sum-more (λ p. length (linesOn n (newlyCaught n gs at0 at1 x p))) i (suc (length gs)) (omega arith)
+        ∙ ap (λ m. m + caughtFrom n gs at0 at1 x (i + 1))
+        (sym (ap (λ w. length (linesOn mostLines w)) word
+        ∙ length-wide n mostLines (newlyCaught n gs at0 at1 x i) wide (split-lt n t (getD at0 i 0) (getD at1 i 0) (forward-lt n gs ok i x fits))))
 
-  -- and the last level
-  pub score-last : (x i e s ones : ℕ) → n ≤ 32 → x < 2 ^ n → i ≡ length gs → e ≡ i → ones ≡ allOnes n → s ≡ forward gs i x
-      → caughtFrom n gs at0 at1 x i ≡ length (linesOn 32 (bitOr (bitAnd s (getD at0 e 0)) (bitAnd (bitXor s ones) (getD at1 e 0))))
-  score-last x i e s ones wide fits last same o here =
-      rw same
-      (score-more x i s ones wide fits (omega arith) o here
-      ∙ omega (arith, sum-end (λ k. length (linesOn n (newlyCaught n gs at0 at1 x k))) (i + 1) (suc (length gs)) (omega arith)))
+    -- and the last level
+    pub score-last : length gs ≤ i
+        → caughtFrom n gs at0 at1 x i ≡ length (linesOn mostLines (bitOr (bitAnd s (getD at0 k 0)) (bitAnd (bitXor s ones) (getD at1 k 0))))
+    score-last last =
+        omega (arith, score-more, sum-end (λ p. length (linesOn n (newlyCaught n gs at0 at1 x p))) (i + 1) (suc (length gs)) (omega arith))
 
   -- ---- what a vector leaves
 
@@ -147,16 +144,16 @@ module _ (n : ℕ) (gs : List Gate) (ok : AllOk n gs) (at0 at1 : List ℕ) where
         ∙ sym (ap (λ w. eqb (bit w j) 1) (ones .done i (omega arith)) ∙ on-and b s j)
     still-marked i j (suc (suc v)) hi o hv = absurd (omega arith)
 
-    pub left-dropped : leftOf n gs now0 now1 ≡ left gs (x ∷ []) (leftOf n gs at0 at1)
-    unfolding leftOf left caughtBySome some
+    pub left-dropped : leftOf n gs now0 now1 ≡ uncaughtOf gs (x ∷ []) (leftOf n gs at0 at1)
+    unfolding leftOf uncaughtOf caughtBySome some
     left-dropped = sym (
         keep-keep (levelMarked at0 at1) (λ f. not (caught gs f x || false)) (stuckFaults n gs)
         ∙ keep-agree _ _ (stuckFaults n gs) (all-stuck _ n gs still-marked))
 
-    pub still-left : Left n gs at0 at1 → length now0 ≡ length at0 → length now1 ≡ length at1 → Left n gs now0 now1
-    still-left on long0 long1 = record {
+    pub still-left : Left n gs at0 at1 → Left n gs now0 now1
+    still-left on = record {
       at-0 = record {
-        wide = omega (arith, on .at-0 .wide);
+        wide = omega (arith, on .at-0 .wide, zeros .long);
         inside = λ i j h o.
             let s : ℕ = forward gs i x in
             let w : ℕ = getD at0 i 0 in
@@ -164,7 +161,7 @@ module _ (n : ℕ) (gs : List Gate) (ok : AllOk n gs) (at0 at1 : List ℕ) where
             on .at-0 .inside i j h (eqb-true (bit w j) 1 (and-both (eqb (bit w j) 1) (eqb (bit s j) 0) seen .0));
       };
       at-1 = record {
-        wide = omega (arith, on .at-1 .wide);
+        wide = omega (arith, on .at-1 .wide, ones .long);
         inside = λ i j h o.
             let s : ℕ = forward gs i x in
             let w : ℕ = getD at1 i 0 in

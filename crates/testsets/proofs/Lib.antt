@@ -1,5 +1,4 @@
 pub mod Log2Laws
-pub mod Levels
 pub mod Changes
 pub mod TotalLaws
 pub mod SetLaws

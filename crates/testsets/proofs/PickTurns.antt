@@ -4,7 +4,7 @@ use mathlib.Core.Path.{_≡_, refl, sym, ap, _∙_, subst}
 use mathlib.Core.List.{List, [], _∷_, _++_}
 use native.Mathlib.Omega.{arith}
 use lib.ListN.{length, take, drop, set}
-use Rattle.basics.specs.Lists.{All}
+use Rattle.basics.specs.Lists.{All, onto}
 use Rattle.basics.proofs.Lists.{all-keep}
 use Rattle.basics.proofs.Fills.{fill-turn, fill-length, fill-done, fill-next, fill-last}
 use Rattle.circuit.specs.Gates.{gatesOf}
@@ -14,15 +14,15 @@ use Rattle.faults.specs.Entries.{StuckOk}
 use Rattle.faults.specs.declared.Fault.{Fault}
 use Rattle.faults.specs.Classes.{stuckFaults}
 use Rattle.marking.specs.Marks.{levelMarked}
-use Rattle.judge.specs.Judging.{left}
+use Rattle.judge.specs.Judging.{uncaughtOf}
 use Rattle.testsets.specs.Sets.{score, best, picks, bound, compactSet}
 use Rattle.faults.specs.Sites.{siteCount}
 use Rattle.testsets.specs.Left.{leftOf, AllSites, Left}
 use Rattle.testsets.proofs.Log2Laws.{log2-le-self}
 use Rattle.faults.proofs.SiteCount.{stuck-sites, site-count-le, site-count-some}
-use Rattle.testsets.proofs.SetLaws.{stuck-ok, score-left}
+use Rattle.testsets.proofs.SetLaws.{stuck-ok, score-uncaught}
 use Rattle.testsets.proofs.LeftLaws.{sites-left, sites-left-all}
-use Rattle.testsets.proofs.Halving.{best-half, half-left}
+use Rattle.testsets.proofs.Halving.{best-half, half-uncaught}
 use Rattle.testsets.proofs.Picks.{few-faults, compact-few}
 
 -- what is left is made of stuck lines
@@ -32,7 +32,7 @@ left-ok n gs at0 at1 = all-keep (StuckOk n (length gs)) (levelMarked at0 at1) (s
 
 -- one pick more, where something is left, and none where nothing is
 picks-some : (n : ℕ) (gs : List Gate) (k : ℕ) (fs : List Fault) → 1 ≤ length fs
-    → picks (suc k) n gs fs ≡ best n gs fs ∷ picks k n gs (left gs (best n gs fs ∷ []) fs)
+    → picks (suc k) n gs fs ≡ best n gs fs ∷ picks k n gs (uncaughtOf gs (best n gs fs ∷ []) fs)
 unfolding picks
 picks-some n gs k [] h = absurd (omega arith)
 picks-some n gs k (f ∷ fs) h = refl
@@ -44,7 +44,7 @@ picks-none n gs (suc k) [] e = refl
 picks-none n gs (suc k) (f ∷ fs) e = absurd (omega arith)
 
 -- the bound fits a word
-pub bound-fits : (n : ℕ) (words : List ℕ) → Sound n words → bound n (gatesOf words) ≤ 32802
+pub bound-fits : (n : ℕ) (words : List ℕ) → Sound n words → bound n (gatesOf words) < 2 ^ 32
 unfolding bound
 bound-fits n words ok =
     let S : ℕ = siteCount n (gatesOf words) in
@@ -93,7 +93,7 @@ module _ (n : ℕ) (gs : List Gate) (ok : AllOk n gs) (old room at0 at1 : List �
 
     next-pick : drop count (compactSet n gs)
         ≡ best n gs (leftOf n gs at0 at1)
-        ∷ picks (bound n gs - (count + 1)) n gs (left gs (best n gs (leftOf n gs at0 at1) ∷ []) (leftOf n gs at0 at1))
+        ∷ picks (bound n gs - (count + 1)) n gs (uncaughtOf gs (best n gs (leftOf n gs at0 at1) ∷ []) (leftOf n gs at0 at1))
     next-pick =
         now .to-come ∙ ap (λ k. picks k n gs (leftOf n gs at0 at1)) spare
         ∙ picks-some n gs (bound n gs - (count + 1)) (leftOf n gs at0 at1) (omega (arith, now .remain-is))
@@ -107,22 +107,22 @@ module _ (n : ℕ) (gs : List Gate) (ok : AllOk n gs) (old room at0 at1 : List �
     picking-catches v sc e q =
         let fs : List Fault = leftOf n gs at0 at1 in
         let half : length fs ≤ 2 * score gs fs v = rw e (best-half n gs ok fs (left-ok n gs at0 at1)) in
-        (omega (arith, now .remain-is), omega (arith, now .remain-is, score-left gs fs v))
+        (omega (arith, now .remain-is), omega (arith, now .remain-is, score-uncaught gs fs v))
 
     -- and the loop goes on with what it leaves
     pub picking-turn : (v sc : ℕ) (now0 now1 : List ℕ) → v ≡ best n gs (leftOf n gs at0 at1) → sc ≡ score gs (leftOf n gs at0 at1) v
-        → Left n gs now0 now1 → leftOf n gs now0 now1 ≡ left gs (v ∷ []) (leftOf n gs at0 at1) → bound n gs ≤ length old
+        → Left n gs now0 now1 → leftOf n gs now0 now1 ≡ uncaughtOf gs (v ∷ []) (leftOf n gs at0 at1) → bound n gs ≤ length old
         → Picking n gs old (set room count v) now0 now1 (remain - sc) (count + 1)
     picking-turn v sc now0 now1 e q on drops wide =
         let fs : List Fault = leftOf n gs at0 at1 in
         let next = fill-next (compactSet n gs) _ count _ next-pick in
         let most = compact-few n gs ok in
-        let rest : leftOf n gs now0 now1 ≡ left gs (best n gs fs ∷ []) fs = drops ∙ ap (λ b. left gs (b ∷ []) fs) e in
-        let halved : 2 * length (leftOf n gs now0 now1) ≤ length fs = rw rest (half-left n gs ok fs (left-ok n gs at0 at1)) in
+        let rest : leftOf n gs now0 now1 ≡ uncaughtOf gs (best n gs fs ∷ []) fs = drops ∙ ap (λ b. uncaughtOf gs (b ∷ []) fs) e in
+        let halved : 2 * length (leftOf n gs now0 now1) ≤ length fs = rw rest (half-uncaught n gs ok fs (left-ok n gs at0 at1)) in
         let power : 2 ^ (bound n gs - count) ≡ 2 ^ suc (bound n gs - (count + 1)) = ap (λ k. 2 ^ k) spare in
         record {
           words-on = on;
-          remain-is = omega (arith, now .remain-is, score-left gs fs v, ap length drops);
+          remain-is = omega (arith, now .remain-is, score-uncaught gs fs v, ap length drops);
           room-is = fill-turn (compactSet n gs) old room count v (next .0) (omega arith) (now .room-is) (e ∙ next .1);
           to-come = next .2 ∙ ap (picks (bound n gs - (count + 1)) n gs) (sym rest);
           few = omega (arith, now .few);
@@ -140,7 +140,7 @@ module _ (n : ℕ) (gs : List Gate) (ok : AllOk n gs) (old room at0 at1 : List �
       fill-last (compactSet n gs) count (now .made)
       (now .to-come ∙ picks-none n gs (bound n gs - count) (leftOf n gs at0 at1) (omega (arith, now .remain-is)))
 
-  pub picking-done : remain ≡ 0 → room ≡ compactSet n gs ++ drop (length (compactSet n gs)) old
+  pub picking-done : remain ≡ 0 → room ≡ onto (compactSet n gs) old
   picking-done e = fill-done (compactSet n gs) old room count (picking-end e) (now .room-is)
 
   pub picking-long : bound n gs ≤ length old → length room ≡ length old

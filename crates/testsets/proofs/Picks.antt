@@ -11,15 +11,15 @@ use Rattle.circuit.specs.declared.Gate.{Gate}
 use Rattle.faults.specs.Entries.{StuckOk}
 use Rattle.faults.specs.declared.Fault.{Fault}
 use Rattle.faults.specs.Classes.{stuckFaults}
-use Rattle.judge.specs.Judging.{left}
+use Rattle.judge.specs.Judging.{uncaughtOf}
 use Rattle.testsets.specs.Log2.{log2}
 use Rattle.testsets.specs.Sets.{Complete, best, picks, bound, compactSet}
 use Rattle.faults.specs.Sites.{siteCount}
 use Rattle.testsets.proofs.Log2Laws.{log2-lt, log2-le}
 use Rattle.testsets.proofs.TotalLaws.{pow-double}
-use Rattle.testsets.proofs.SetLaws.{stuck-ok, left-cons, left-nil, left-le, all-left}
+use Rattle.testsets.proofs.SetLaws.{stuck-ok, uncaught-cons, uncaught-nil, uncaught-le, all-uncaught}
 use Rattle.faults.proofs.SiteCount.{stuck-sites}
-use Rattle.testsets.proofs.Halving.{best-lt, half-left}
+use Rattle.testsets.proofs.Halving.{best-lt, half-uncaught}
 
 -- a list that 2 ^ k times is shorter than 2 ^ k is empty
 nil-of-few : (k : ℕ) (fs : List Fault) → 2 ^ k * length fs < 2 ^ k → fs ≡ []
@@ -27,22 +27,22 @@ nil-of-few k [] h = refl
 nil-of-few k (f ∷ fs) h = absurd (omega arith)
 
 -- k picks leave at most one of 2 ^ k faults
-pub picks-left : (n : ℕ) (gs : List Gate) → AllOk n gs → (k : ℕ) (fs : List Fault) → All (StuckOk n (length gs)) fs
-    → 2 ^ k * length (left gs (picks k n gs fs) fs) ≤ length fs
+pub picks-uncaught : (n : ℕ) (gs : List Gate) → AllOk n gs → (k : ℕ) (fs : List Fault) → All (StuckOk n (length gs)) fs
+    → 2 ^ k * length (uncaughtOf gs (picks k n gs fs) fs) ≤ length fs
 unfolding picks
-picks-left n gs ok zero fs w = omega (arith, left-le gs [] fs)
-picks-left n gs ok (suc k) [] w = rw (left-nil gs []) (le-of-eq (mul-zero (2 ^ suc k)))
-picks-left n gs ok (suc k) (f ∷ fs) w =
+picks-uncaught n gs ok zero fs w = omega (arith, uncaught-le gs [] fs)
+picks-uncaught n gs ok (suc k) [] w = rw (uncaught-nil gs []) (le-of-eq (mul-zero (2 ^ suc k)))
+picks-uncaught n gs ok (suc k) (f ∷ fs) w =
     let b : ℕ = best n gs (f ∷ fs) in
-    let rest : List Fault = left gs (b ∷ []) (f ∷ fs) in
-    let ih = picks-left n gs ok k rest (all-left (StuckOk n (length gs)) gs (b ∷ []) (f ∷ fs) w) in
-    let end : ℕ = length (left gs (picks k n gs rest) rest) in
-    rw (← left-cons gs b (picks k n gs rest) (f ∷ fs), pow-double k end) (omega (arith, half-left n gs ok (f ∷ fs) w))
+    let rest : List Fault = uncaughtOf gs (b ∷ []) (f ∷ fs) in
+    let ih = picks-uncaught n gs ok k rest (all-uncaught (StuckOk n (length gs)) gs (b ∷ []) (f ∷ fs) w) in
+    let end : ℕ = length (uncaughtOf gs (picks k n gs rest) rest) in
+    rw (← uncaught-cons gs b (picks k n gs rest) (f ∷ fs), pow-double k end) (omega (arith, half-uncaught n gs ok (f ∷ fs) w))
 
 -- so fewer than 2 ^ k faults are all caught
 pub picks-complete : (n : ℕ) (gs : List Gate) → AllOk n gs → (k : ℕ) (fs : List Fault) → All (StuckOk n (length gs)) fs
-    → length fs < 2 ^ k → left gs (picks k n gs fs) fs ≡ []
-picks-complete n gs ok k fs w h = nil-of-few k (left gs (picks k n gs fs) fs) (lt-of-le-of-lt (picks-left n gs ok k fs w) h)
+    → length fs < 2 ^ k → uncaughtOf gs (picks k n gs fs) fs ≡ []
+picks-complete n gs ok k fs w h = nil-of-few k (uncaughtOf gs (picks k n gs fs) fs) (lt-of-le-of-lt (picks-uncaught n gs ok k fs w) h)
 
 -- fewer than 2 ^ m take no more than m vectors, however many picks are allowed
 pub picks-few : (n : ℕ) (gs : List Gate) → AllOk n gs → (k m : ℕ) (fs : List Fault) → All (StuckOk n (length gs)) fs
@@ -53,8 +53,9 @@ picks-few n gs ok (suc k) m [] w h = zero-le
 picks-few n gs ok (suc k) zero (f ∷ fs) w h = absurd (omega arith)
 picks-few n gs ok (suc k) (suc m) (f ∷ fs) w h =
     let b : ℕ = best n gs (f ∷ fs) in
-    let rest : List Fault = left gs (b ∷ []) (f ∷ fs) in
-    suc-le-suc (picks-few n gs ok k m rest (all-left (StuckOk n (length gs)) gs (b ∷ []) (f ∷ fs) w) (omega (arith, half-left n gs ok (f ∷ fs) w)))
+    let rest : List Fault = uncaughtOf gs (b ∷ []) (f ∷ fs) in
+    suc-le-suc (picks-few n gs ok k m rest (all-uncaught (StuckOk n (length gs)) gs (b ∷ []) (f ∷ fs) w)
+    (omega (arith, half-uncaught n gs ok (f ∷ fs) w)))
 
 -- then further picks add nothing
 pub picks-enough : (n : ℕ) (gs : List Gate) → AllOk n gs → (m k : ℕ) (fs : List Fault) → All (StuckOk n (length gs)) fs
@@ -67,9 +68,9 @@ picks-enough n gs ok (suc m) zero fs w h l = absurd (omega arith)
 picks-enough n gs ok (suc m) (suc k) [] w h l = refl
 picks-enough n gs ok (suc m) (suc k) (f ∷ fs) w h l =
     let b : ℕ = best n gs (f ∷ fs) in
-    let rest : List Fault = left gs (b ∷ []) (f ∷ fs) in
+    let rest : List Fault = uncaughtOf gs (b ∷ []) (f ∷ fs) in
     ap (λ xs. b ∷ xs)
-    (picks-enough n gs ok m k rest (all-left (StuckOk n (length gs)) gs (b ∷ []) (f ∷ fs) w) (omega (arith, half-left n gs ok (f ∷ fs) w))
+    (picks-enough n gs ok m k rest (all-uncaught (StuckOk n (length gs)) gs (b ∷ []) (f ∷ fs) w) (omega (arith, half-uncaught n gs ok (f ∷ fs) w))
     (le-of-suc-le-suc l))
 
 -- every pick is an input
@@ -77,7 +78,7 @@ pub picks-lt : (n : ℕ) (gs : List Gate) (k : ℕ) (fs : List Fault) → All (�
 unfolding picks
 picks-lt n gs zero fs = tt
 picks-lt n gs (suc k) [] = tt
-picks-lt n gs (suc k) (f ∷ fs) = (best-lt n gs (f ∷ fs), picks-lt n gs k (left gs (best n gs (f ∷ fs) ∷ []) (f ∷ fs)))
+picks-lt n gs (suc k) (f ∷ fs) = (best-lt n gs (f ∷ fs), picks-lt n gs k (uncaughtOf gs (best n gs (f ∷ fs) ∷ []) (f ∷ fs)))
 
 -- ---- the compact set
 

@@ -15,6 +15,7 @@ use Rattle.circuit.specs.Rules.{circuitRows}
 use Rattle.circuit.specs.Sound.{Sound}
 use Rattle.circuit.proofs.GateLaws.{gates-count}
 use Rattle.circuit.proofs.RuleLaws.{sound}
+use Rattle.testsets.specs.Limits.{mostTriedLines}
 use Rattle.testsets.specs.Sets.{bound}
 use Rattle.testsets.specs.Rules.{backwardRows, compactRows}
 
@@ -34,16 +35,20 @@ module _ (n : ℕ) (words : List ℕ) (room : ℕ) where
 
   pub record CompactOk : Type 0 where
     pub circuit : Sound n words
-    pub lines-few : n ≤ 12
+    pub lines-few : n ≤ mostTriedLines
     pub room-fits : bound n (gatesOf words) ≤ room
 
   pub compact-ok : fine ≡ firstOf (compactRows n words room) fine → CompactOk
   unfolding compactRows
   compact-ok e =
       let w = fine-parts (circuitRows n words) _ e in
-      let many = fine-row (ltb 12 n) 11 0 _ (w .1) in
+      let many = fine-row (ltb mostTriedLines n) 11 0 _ (w .1) in
       let short = fine-row (ltb room (bound n (gatesOf words))) 10 0 fine (many .1) in
-      record { circuit = sound n words (w .0); lines-few = ltb-false 12 n (many .0); room-fits = ltb-false room (bound n (gatesOf words)) (short .0) }
+      record {
+        circuit = sound n words (w .0);
+        lines-few = ltb-false mostTriedLines n (many .0);
+        room-fits = ltb-false room (bound n (gatesOf words)) (short .0);
+      }
 
   -- ---- past the rules of the circuit: one law for each outcome
 
@@ -58,14 +63,15 @@ module _ (n : ℕ) (words : List ℕ) (room : ℕ) where
     backward-fine h =
         sym (fine-on (circuitRows n words) _ fine passed ∙ rw (le-ltb room (length (gatesOf words) + 2) (omega (arith, gates-count words))))
 
-    pub compact-lines : 12 < n → refused 11 0 ≡ firstOf (compactRows n words room) fine
+    pub compact-lines : mostTriedLines < n → refused 11 0 ≡ firstOf (compactRows n words room) fine
     unfolding compactRows
-    compact-lines h = sym (fine-on (circuitRows n words) _ fine passed ∙ rw (lt-ltb 12 n h))
+    compact-lines h = sym (fine-on (circuitRows n words) _ fine passed ∙ rw (lt-ltb mostTriedLines n h))
 
-    pub compact-short : n ≤ 12 → room < bound n (gatesOf words) → refused 10 0 ≡ firstOf (compactRows n words room) fine
+    pub compact-short : n ≤ mostTriedLines → room < bound n (gatesOf words) → refused 10 0 ≡ firstOf (compactRows n words room) fine
     unfolding compactRows
-    compact-short few h = sym (fine-on (circuitRows n words) _ fine passed ∙ rw (le-ltb 12 n few, lt-ltb room (bound n (gatesOf words)) h))
+    compact-short few h = sym (
+        fine-on (circuitRows n words) _ fine passed ∙ rw (le-ltb mostTriedLines n few, lt-ltb room (bound n (gatesOf words)) h))
 
-    pub compact-fine : n ≤ 12 → bound n (gatesOf words) ≤ room → fine ≡ firstOf (compactRows n words room) fine
+    pub compact-fine : n ≤ mostTriedLines → bound n (gatesOf words) ≤ room → fine ≡ firstOf (compactRows n words room) fine
     unfolding compactRows
-    compact-fine few h = sym (fine-on (circuitRows n words) _ fine passed ∙ rw (le-ltb 12 n few, le-ltb room (bound n (gatesOf words)) h))
+    compact-fine few h = sym (fine-on (circuitRows n words) _ fine passed ∙ rw (le-ltb mostTriedLines n few, le-ltb room (bound n (gatesOf words)) h))

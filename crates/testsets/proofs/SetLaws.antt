@@ -1,8 +1,8 @@
--- Laws of fault lists and sets: the stuck-at faults of a circuit, what a set leaves of a list, when a set is complete.
-use Prim.Native.Nat.{ℕ, _+_, _≤_, _<_}
+-- Laws of fault lists and sets: the stuck-at faults of a circuit, what a set leaves uncaught of a list, when a set is complete.
+use Prim.Native.Nat.{ℕ, _+_, _≤_}
 use mathlib.Core.Path.{_≡_, refl, sym, ap, ap₂, _∙_, subst}
 use mathlib.Core.Logic.{_↔_}
-use mathlib.Core.Bool.{Bool, true, false, not, _&&_, _||_}
+use mathlib.Core.Bool.{Bool, true, false, not, _&&_, _||_, or-false}
 use mathlib.Core.List.{List, [], _∷_, List·Memᴰ}
 use native.Mathlib.Omega.{arith}
 use lib.ListN.{length}
@@ -18,17 +18,15 @@ use Rattle.simulator.specs.Faulty.{caught}
 use Rattle.faults.specs.Entries.{StuckOk}
 use Rattle.faults.specs.declared.Fault.{Fault}
 use Rattle.faults.specs.Classes.{faultOf, stuckFaults, classFaults}
-use Rattle.judge.specs.Judging.{caughtBySome, left, verdict}
+use Rattle.judge.specs.Judging.{caughtBySome, uncaughtOf, verdict, setVerdict}
 use Rattle.marking.specs.Firsts.{firstTold}
+use Rattle.marking.proofs.MarkLaws.{stuck-of}
 use Rattle.testsets.specs.Sets.{Complete, score}
 use Rattle.faults.proofs.ClassParts.{all-stuck, stuck-all}
+use Rattle.faults.proofs.ClassLists.{same-fault}
 use Rattle.faults.proofs.SiteCount.{AtSite, site-below}
 
 -- ---- all stuck-at faults of a circuit
-
-pub stuck-of : (n : ℕ) (gs : List Gate) (i j v : ℕ) → i ≤ length gs → j < n → v ≤ 1 → StuckOk n (length gs) (faultOf 1 i j v)
-unfolding faultOf
-stuck-of n gs i j v hi hj hv = record { class-is = refl; place-in = hi; line-in = hj; value-in = hv }
 
 pub stuck-ok : (n : ℕ) (gs : List Gate) → All (StuckOk n (length gs)) (stuckFaults n gs)
 stuck-ok n gs = all-stuck (StuckOk n (length gs)) n gs (λ i j v hi o hv. stuck-of n gs i j v hi (site-below n gs i j o) hv)
@@ -39,17 +37,13 @@ pub score-cons : (gs : List Gate) (f : Fault) (fs : List Fault) (x : ℕ) → sc
 unfolding score
 score-cons gs f fs x = length-keep (λ h. caught gs h x) f fs
 
--- ---- what is left
-
-or-nothing : (b : Bool) → b || false ≡ b
-or-nothing true = refl
-or-nothing false = refl
+-- ---- what is uncaught
 
 -- the faults that a vector catches and those that it leaves are all
-pub score-left : (gs : List Gate) (fs : List Fault) (x : ℕ) → score gs fs x + length (left gs (x ∷ []) fs) ≡ length fs
-unfolding score left caughtBySome some
-score-left gs fs x =
-    ap (λ l. length (keep (λ f. caught gs f x) fs) + length l) (keep-cong (λ f. ap not (or-nothing (caught gs f x))) fs)
+pub score-uncaught : (gs : List Gate) (fs : List Fault) (x : ℕ) → score gs fs x + length (uncaughtOf gs (x ∷ []) fs) ≡ length fs
+unfolding score uncaughtOf caughtBySome some
+score-uncaught gs fs x =
+    ap (λ l. length (keep (λ f. caught gs f x) fs) + length l) (keep-cong (λ f. ap not (or-false (caught gs f x))) fs)
     ∙ keep-parts (λ f. caught gs f x) fs
 
 not-or : (b c : Bool) → not (b || false) && not c ≡ not (b || c)
@@ -57,29 +51,30 @@ not-or true c = refl
 not-or false c = refl
 
 -- what a vector and then others leave
-pub left-cons : (gs : List Gate) (x : ℕ) (xs : List ℕ) (fs : List Fault) → left gs xs (left gs (x ∷ []) fs) ≡ left gs (x ∷ xs) fs
-unfolding left caughtBySome some
-left-cons gs x xs fs =
+pub uncaught-cons : (gs : List Gate) (x : ℕ) (xs : List ℕ) (fs : List Fault)
+    → uncaughtOf gs xs (uncaughtOf gs (x ∷ []) fs) ≡ uncaughtOf gs (x ∷ xs) fs
+unfolding uncaughtOf caughtBySome some
+uncaught-cons gs x xs fs =
     keep-keep (λ f. not (caught gs f x || false)) (λ f. not (some (caught gs f) xs)) fs
     ∙ keep-cong (λ f. not-or (caught gs f x) (some (caught gs f) xs)) fs
 
-pub all-left : (P : Fault → Type 0) (gs : List Gate) (xs : List ℕ) (fs : List Fault) → All P fs → All P (left gs xs fs)
-unfolding left
-all-left P gs xs fs w = all-keep P (λ f. not (caughtBySome gs xs f)) fs w
+pub all-uncaught : (P : Fault → Type 0) (gs : List Gate) (xs : List ℕ) (fs : List Fault) → All P fs → All P (uncaughtOf gs xs fs)
+unfolding uncaughtOf
+all-uncaught P gs xs fs w = all-keep P (λ f. not (caughtBySome gs xs f)) fs w
 
-pub left-le : (gs : List Gate) (xs : List ℕ) (fs : List Fault) → length (left gs xs fs) ≤ length fs
-unfolding left
-left-le gs xs fs = keep-le (λ f. not (caughtBySome gs xs f)) fs
+pub uncaught-le : (gs : List Gate) (xs : List ℕ) (fs : List Fault) → length (uncaughtOf gs xs fs) ≤ length fs
+unfolding uncaughtOf
+uncaught-le gs xs fs = keep-le (λ f. not (caughtBySome gs xs f)) fs
 
-pub left-nil : (gs : List Gate) (xs : List ℕ) → left gs xs [] ≡ []
-unfolding left keep
-left-nil gs xs = refl
+pub uncaught-nil : (gs : List Gate) (xs : List ℕ) → uncaughtOf gs xs [] ≡ []
+unfolding uncaughtOf keep
+uncaught-nil gs xs = refl
 
 -- ---- completeness, fault by fault
 
 pub complete-iff : (n : ℕ) (gs : List Gate) (xs : List ℕ)
     → Complete n gs xs ↔ ((i j v : ℕ) → i ≤ length gs → bit (sites n gs i) j ≡ 1 → v ≤ 1 → caughtBySome gs xs (faultOf 1 i j v) ≡ true)
-unfolding left
+unfolding uncaughtOf
 complete-iff n gs xs = (
   λ e i j v hi o hv.
       sym (not-not (caughtBySome gs xs (faultOf 1 i j v)))
@@ -89,24 +84,19 @@ complete-iff n gs xs = (
       (all-stuck (λ f. not (caughtBySome gs xs f) ≡ false) n gs (λ i j v hi o hv. ap not (h i j v hi o hv))),
 )
 
--- a stuck line is one of a level, a line and a value
-stuck-is : (n d : ℕ) (f : Fault) → StuckOk n d f → faultOf 1 (f .place) (f .line) (f .value) ≡ f
-unfolding faultOf
-stuck-is n d f k = λ i. record { class = sym (k .class-is) i; place = f .place; line = f .line; value = f .value }
-
 -- some vector of a complete set catches it, where it is at a site
 pub complete-catches : (n : ℕ) (gs : List Gate) (xs : List ℕ) → Complete n gs xs → (f : Fault) → StuckOk n (length gs) f → AtSite n gs f
     → (x : ℕ) × List·Memᴰ x xs × (caught gs f x ≡ true)
 unfolding caughtBySome
 complete-catches n gs xs e f k o =
     some-entry (caught gs f) xs
-    (subst (λ h. some (caught gs h) xs ≡ true) (stuck-is n (length gs) f k)
+    (subst (λ h. some (caught gs h) xs ≡ true) (sym (same-fault f (k .class-is) refl refl))
     (complete-iff n gs xs .0 e (f .place) (f .line) (f .value) (k .place-in) o (k .value-in)))
 
--- the judge's verdict on a complete set: all are caught, and none is the first that is left
+-- the judge's verdict on a complete set: all are caught, and none is the first uncaught
 pub complete-verdict : (n : ℕ) (gs : List Gate) (xs : List ℕ) → Complete n gs xs
-    → verdict (caughtBySome gs xs) (classFaults n gs 1) ≡ answered (length (stuckFaults n gs) ∷ length (stuckFaults n gs) ∷ 1 ∷ 0 ∷ 0 ∷ 0 ∷ 0 ∷ [])
-unfolding verdict classFaults left
+    → setVerdict n gs xs 1 ≡ answered (length (stuckFaults n gs) ∷ length (stuckFaults n gs) ∷ 1 ∷ 0 ∷ 0 ∷ 0 ∷ 0 ∷ [])
+unfolding verdict classFaults uncaughtOf
 complete-verdict n gs xs e =
     let all : length (keep (caughtBySome gs xs) (stuckFaults n gs)) ≡ length (stuckFaults n gs) =
     omega (arith, keep-parts (caughtBySome gs xs) (stuckFaults n gs), ap length e) in

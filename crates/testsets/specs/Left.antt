@@ -3,7 +3,7 @@
 use Prim.Native.Nat.{ℕ, _≤_, _<_}
 use mathlib.Core.Path.{_≡_}
 use mathlib.Core.List.{List}
-use lib.ListN.{length, getD}
+use lib.ListN.{length, getD, set}
 use Rattle.basics.specs.Lists.{keep}
 use Rattle.words.specs.Word.{bit}
 use Rattle.circuit.specs.declared.Gate.{Gate}
@@ -30,3 +30,7 @@ pub record OnSites (n : ℕ) (gs : List Gate) (ws : List ℕ) : Type 0 where
 pub record Left (n : ℕ) (gs : List Gate) (at0 at1 : List ℕ) : Type 0 where
   pub at-0 : OnSites n gs at0
   pub at-1 : OnSites n gs at1
+
+-- words of which one, of a place, is changed
+abbrev pub changedAt : (ℕ → ℕ) → ℕ → List ℕ → List ℕ
+changedAt change i words = set words i (change (getD words i 0))

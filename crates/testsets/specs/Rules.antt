@@ -7,14 +7,15 @@ use Rattle.refusals.specs.Tables.{Row}
 use Rattle.refusals.specs.Tables.Row.{refuse_at_when_}
 use Rattle.circuit.specs.Gates.{gatesOf}
 use Rattle.circuit.specs.Rules.{circuitRows}
+use Rattle.testsets.specs.Limits.{mostTriedLines}
 use Rattle.testsets.specs.Sets.{bound}
 
 -- two vectors, and one for each gate
 unfoldable pub backwardRows : ℕ → List ℕ → ℕ → List Row
 backwardRows n words room = circuitRows n words ++ (refuse 10 at 0 when ltb room (length (gatesOf words) + 2) ∷ [])
 
--- every input is tried, so at most 12 lines; and as many vectors as a compact set can have
+-- no more lines than can be tried, and room for as many vectors as a compact set can have
 unfoldable pub compactRows : ℕ → List ℕ → ℕ → List Row
 compactRows n words room = circuitRows n words ++ (
-    refuse 11 at 0 when ltb 12 n ∷
+    refuse 11 at 0 when ltb mostTriedLines n ∷
     refuse 10 at 0 when ltb room (bound n (gatesOf words)) ∷ [])

@@ -14,12 +14,12 @@ use Rattle.faults.specs.Sites.{siteCount}
 use Rattle.simulator.specs.Faulty.{caught}
 use Rattle.faults.specs.declared.Fault.{Fault}
 use Rattle.faults.specs.Classes.{stuckFaults}
-use Rattle.judge.specs.Judging.{left}
+use Rattle.judge.specs.Judging.{uncaughtOf}
 use Rattle.testsets.specs.Log2.{log2}
 
 -- a set is complete when no stuck-at fault of the circuit is left
 abbrev pub Complete : ℕ → List Gate → List ℕ → Type 0
-Complete n gs xs = left gs xs (stuckFaults n gs) ≡ []
+Complete n gs xs = uncaughtOf gs xs (stuckFaults n gs) ≡ []
 
 -- ---- the compact set
 
@@ -42,7 +42,7 @@ picks zero n gs fs = []
 picks (suc k) n gs [] = []
 picks (suc k) n gs (f ∷ fs) =
     let b = best n gs (f ∷ fs) in
-    b ∷ picks k n gs (left gs (b ∷ []) (f ∷ fs))
+    b ∷ picks k n gs (uncaughtOf gs (b ∷ []) (f ∷ fs))
 
 -- the most vectors that a compact set has
 unfoldable pub bound : ℕ → List Gate → ℕ

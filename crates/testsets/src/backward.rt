@@ -1,9 +1,9 @@
 // The backward set of a circuit that is known to be sound, in a room that is known to suffice.
 ghost use mathlib.Core.Path.{_≡_};
-ghost use mathlib.Core.List.{_++_};
 ghost use Prim.Native.Nat.{_+_, _≤_};
 ghost use lib.Bits.{bitXor};
-ghost use lib.ListN.{length, drop};
+ghost use lib.ListN.{length};
+ghost use Rattle.basics.specs.Lists.{onto};
 ghost use Rattle.circuit.specs.Gates.{gatesOf};
 ghost use Rattle.circuit.specs.Runs.{backward};
 ghost use Rattle.circuit.specs.Sound.{Sound};
@@ -28,9 +28,8 @@ fn inverse_at(lines: u32, gates: &[u32], level: LevelNumber, ones: u32, state: u
 pub fn make(lines: u32, gates: &[u32], room: &mut [u32]) -> u32
     requires { ⌜ Sound lines (now gates) ⌝ }
     requires { ⌜ length (gatesOf (now gates)) + 2 ≤ length (now room) ⌝ }
-    ensures { λ r. ⌜ (r ≡ length (backwardSet lines (gatesOf (now (gates .entry))))) ×
-        (now (room .exit) ≡ backwardSet lines (gatesOf (now (gates .entry))) ++
-        drop (length (backwardSet lines (gatesOf (now (gates .entry))))) (now (room .entry))) ⌝ }
+    ensures { λ r. ⌜ (r ≡ length (backwardSet lines (gatesOf (now (gates .entry)))))
+        × (now (room .exit) ≡ onto (backwardSet lines (gatesOf (now (gates .entry)))) (now (room .entry))) ⌝ }
 {
     let ones = words::checked::all_ones(lines);
     let end = gates.len() / 3;

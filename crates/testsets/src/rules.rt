@@ -7,6 +7,7 @@ ghost use Rattle.circuit.specs.Sound.{Sound};
 ghost use Rattle.testsets.specs.Log2.{log2};
 ghost use Rattle.testsets.specs.Sets.{bound};
 ghost use Rattle.testsets.specs.Rules.{backwardRows, compactRows};
+use crate::limits::MOST_TRIED_LINES;
 use circuit::rules::check_circuit;
 use faults::sites::site_count;
 use refusals::Checked;
@@ -56,7 +57,7 @@ pub fn check_compact(lines: u32, gates: &[u32], room: usize) -> Checked
     if let Checked::Wrong(refusal) = check_circuit(lines, gates) {
         return Checked::Wrong(refusal);
     }
-    if 12 < lines {
+    if MOST_TRIED_LINES < lines {
         return Checked::Wrong(Refusal {
             number: 11,
             place: 0,

@@ -1,27 +1,23 @@
 -- `testsets::backward::make` meets its contract: after i turns the room begins with the first i + 2 vectors of the set,
 -- and the state is that of all zeros at level i.
 -- Assumes nothing.
-use Rattle.circuit.proofs.GateLaws.{gates-count}
-use Rattle.circuit.proofs.RuleLaws.{target-fits}
-use Rattle.circuit.proofs.RunLaws.{forward-none}
-use Rattle.testsets.proofs.Levels.{next-level}
+use Rattle.marking.proofs.TurnLaws.{Walk, walk-start, walk-target, walk-more}
 use Rattle.testsets.proofs.BackwardLaws.{backward-begin, backward-turn, backward-end, backward-length, backward-rest}
-use Prim.Native.Nat.{_+_, _-_, _≤_}
-use mathlib.Core.Path.{_≡_, refl, ap, sym, _∙_}
+use Prim.Native.Nat.{_+_, _-_, _/_, _≤_}
+use mathlib.Core.Path.{_≡_, refl, ap, _∙_}
 use mathlib.Core.List.{_++_}
 use native.Mathlib.Omega.{arith}
 use lib.ListN.{length, take, drop, set, length-set}
 use borrow.Author.Needs.{needs}
 use Rattle.circuit.specs.Gates.{gatesOf}
-use Rattle.circuit.specs.Runs.{forward}
 use Rattle.testsets.specs.Sets.{backwardSet}
 use Rattle.testsets.proofs.backward.make.Statement.{statement}
 use Rattle.testsets.proofs.backward.make.Tie as tie
 
 abbrev Inv-loop : tie.InvT-loop
 Inv-loop lines gates room₀ ones end state₀ i₀ room state i =
-    (end ≡ length (gatesOf gates)) × ((i ≤ end) × ((state ≡ forward (gatesOf gates) i 0)
-    × ((length room ≡ length room₀) × (room ≡ take (i + 2) (backwardSet lines (gatesOf gates)) ++ drop (i + 2) room₀))))
+    Walk gates 0 end state i
+    × ((length room ≡ length room₀) × (room ≡ take (i + 2) (backwardSet lines (gatesOf gates)) ++ drop (i + 2) room₀))
 
 abbrev μ-loop : tie.MeasureT-loop
 μ-loop lines gates room₀ ones end state₀ i₀ room state i = end - i
@@ -37,13 +33,10 @@ slice-write-room-2 c = let a = c .before .before .before .args in omega (arith, 
 
 loop-holds : tie.Need-loop-holds Inv-loop μ-loop
 loop-holds c =
-    let a = c .before .before .before .args in
-    let wide : length (gatesOf (a .gates .now)) + 2 ≤ length (a .room .now) = search needs in (
-      sym (gates-count _),
-      (
-        search needs,
-        (sym (forward-none _ 0), (refl, backward-begin (a .lines) (gatesOf (a .gates .now)) _ (c .all-ones .ensures) (a .room .now) wide)),
-      ),
+    let start = c .before .before .before in
+    let a = start .args in (
+      walk-start (a .gates .now) 0,
+      (refl, backward-begin (a .lines) (gatesOf (a .gates .now)) _ (c .all-ones .ensures) (a .room .now) (start .pre .1)),
     )
 
 level-requires : tie.Need-level-requires Inv-loop μ-loop
@@ -57,9 +50,12 @@ gate-at-requires c κs = omega arith
 
 step-requires : tie.Need-step-requires Inv-loop μ-loop
 step-requires c κs =
-    let l = c .before .before .before .before in
-    let a = l .before .before .before .before .args in
-    rw (c .gate-at .ensures) (target-fits (a .lines) (a .gates .now) _ (search needs) (omega arith) (omega arith))
+    let turn = c .before .before .before in
+    let l = turn .before in
+    let start = l .before .before .before .before in
+    let a = start .args in
+    walk-target (a .lines) (a .gates .now) (start .pre .0) 0 _ (l .loop .state) (l .loop .i) (l .loop .inv .0)
+    (turn .loop-test .taken) (c .gate-at .result) (c .before .gate-after .result .0) (c .gate-at .ensures) (omega arith)
 
 add-i : tie.Need-add-i Inv-loop μ-loop
 add-i c = omega arith
@@ -78,35 +74,36 @@ mul-room c = omega arith
 
 slice-write-room-3 : tie.Need-slice-write-room-3 Inv-loop μ-loop
 slice-write-room-3 c =
-    let a = c .before .before .before .before .before .before .before .before .before .before .before .args in
-    let ones = c .before .before .before .before .before .before .before .before .all-ones .result in
-    omega (arith, length-set (a .room .now) 0 0, length-set (set (a .room .now) 0 0) 1 ones)
+    let l = c .before .before .before .before .before .before .before in
+    let a = l .before .before .before .before .args in
+    omega (arith, length-set (a .room .now) 0 0, length-set (set (a .room .now) 0 0) 1 (l .before .all-ones .result))
 
 loop-less : tie.Need-loop-less Inv-loop μ-loop
 loop-less c = omega arith
 
 loop-again : tie.Need-loop-again Inv-loop μ-loop
 loop-again c =
-    let l = c .before .before .before .before .before .before .before in
-    let a = l .before .before .before .before .args in
+    let above = c .before in
+    let stepped = above .before in
+    let found = stepped .before in
+    let turn = found .before .before .before in
+    let l = turn .before in
+    let ones = l .before .all-ones in
+    let start = l .before .before .before .before in
+    let a = start .args in
     let gs = gatesOf (a .gates .now) in
-    let ones = l .before .all-ones .result in
-    let start = set (set (a .room .now) 0 0) 1 ones in
-    let gate = c .before .before .before .gate-at .ensures in
-    let up = c .before .before .step .ensures ∙ next-level gs (l .loop .i) 0 (l .loop .state) _ _ (omega arith) (l .loop .inv .1 .1 .0)
-    (omega arith) gate in
-    let wide : length gs + 2 ≤ length start = omega (arith, length-set (a .room .now) 0 0, length-set (set (a .room .now) 0 0) 1 ones) in
-    let turn = backward-turn (a .lines) gs ones (l .before .all-ones .ensures) start wide (l .loop .room) (l .loop .i) in (
-      l .loop .inv .0,
+    let i = l .loop .i in
+    let begun = set (set (a .room .now) 0 0) 1 (ones .result) in
+    let room = start .pre .1 in
+    let wide : length gs + 2 ≤ length begun = omega (arith, length-set (a .room .now) 0 0, length-set (set (a .room .now) 0 0) 1 (ones .result)) in
+    let next = rw (← stepped .step .ensures) at (walk-more (a .lines) (a .gates .now) (start .pre .0) 0 (length (a .gates .now) / 3)
+    (l .loop .state) i (l .loop .inv .0) (turn .loop-test .taken) (found .gate-at .result) (found .before .gate-after .result .0)
+    (found .gate-at .ensures) (omega arith)) in (
+      next,
       (
-        omega arith,
-        (
-          up,
-          (
-            length-set (l .loop .room) (l .loop .i + 1 + 1) (c .inverse-at .result) ∙ l .loop .inv .1 .1 .1 .0,
-            turn _ _ _ (omega arith) up (c .before .level2 .ensures) (c .inverse-at .ensures) (l .loop .inv .1 .1 .1 .1),
-          ),
-        ),
+        length-set (l .loop .room) (i + 1 + 1) (c .inverse-at .result) ∙ l .loop .inv .1 .0,
+        backward-turn (a .lines) gs (ones .result) (ones .ensures) begun wide (l .loop .room) i _ _ _ (omega arith) (next .here)
+            (above .level2 .ensures) (c .inverse-at .ensures) (l .loop .inv .1 .1),
       ),
     )
 
@@ -120,7 +117,7 @@ same-length : tie.Need-same-length Inv-loop μ-loop
 same-length c =
     let l = c .before in
     let a = l .before .before .before .before .args in
-    l .loop .inv .1 .1 .1 .0 ∙ length-set (set (a .room .now) 0 0) 1 (l .before .all-ones .result) ∙ length-set (a .room .now) 0 0
+    l .loop .inv .1 .0 ∙ length-set (set (a .room .now) 0 0) 1 (l .before .all-ones .result) ∙ length-set (a .room .now) 0 0
 
 returns : tie.Need-returns Inv-loop μ-loop
 returns c =
@@ -128,9 +125,9 @@ returns c =
     let a = l .before .before .before .before .args in
     let gs = gatesOf (a .gates .now) in
     let ones = l .before .all-ones .result in
-    let start = set (set (a .room .now) 0 0) 1 ones in (
-      omega (arith, backward-length (a .lines) gs, gates-count (a .gates .now)),
-      backward-end (a .lines) gs start (l .loop .room) (l .loop .i) (omega arith) (l .loop .inv .1 .1 .1 .1)
+    let begun = set (set (a .room .now) 0 0) 1 ones in (
+      omega (arith, backward-length (a .lines) gs),
+      backward-end (a .lines) gs begun (l .loop .room) (l .loop .i) (omega arith) (l .loop .inv .1 .1)
           ∙ ap (λ rest. backwardSet (a .lines) gs ++ rest) (backward-rest (a .lines) gs ones (a .room .now)),
     )
 

@@ -47,13 +47,16 @@ loop-less c = omega arith
 
 loop-again : tie.Need-loop-again Inv-loop μ-loop
 loop-again c =
-    let l = c .before .before .before in
+    let scored = c .before in
+    let turn = scored .before in
+    let l = turn .before in
     let a = l .before .before .before .args in
     let gs = gatesOf (a .gates .now) in
     let fs = leftOf (a .lines) gs (a .left-0 .now) (a .left-1 .now) in
     let next = l .loop .next in
-    let asked = c .before .score2 .ensures in
+    let asked = scored .score2 .ensures in
     let before = l .loop .inv .1 .1 .0 in
+    let best-before = l .loop .inv .1 .1 .1 in
     let less : next < 2 ^ a .lines = omega arith in
     let from : ℕ → ℕ = λ v. bestOf gs fs v (upFrom (next + 1) (2 ^ a .lines - (next + 1))) in (
       l .loop .inv .0,
@@ -62,12 +65,12 @@ loop-again c =
         ⊎-elim
             (λ w. (
               w .2 ∙ asked ∙ ap (score gs fs) (sym (w .1)),
-              l .loop .inv .1 .1 .1 ∙ best-higher gs fs (l .loop .vector) next (2 ^ a .lines) less (rw (← before, ← asked) (w .0 .taken))
+              best-before ∙ best-higher gs fs (l .loop .vector) next (2 ^ a .lines) less (rw (← before, ← asked) (w .0 .taken))
                   ∙ ap from (sym (w .1)),
             ))
             (λ w. (
               w .2 ∙ before ∙ ap (score gs fs) (sym (w .1)),
-              l .loop .inv .1 .1 .1 ∙ best-kept gs fs (l .loop .vector) next (2 ^ a .lines) less (rw (← before, ← asked) (w .0 .left))
+              best-before ∙ best-kept gs fs (l .loop .vector) next (2 ^ a .lines) less (rw (← before, ← asked) (w .0 .left))
                   ∙ ap from (sym (w .1)),
             )) (c .if1 .came),
       ),
@@ -79,7 +82,9 @@ returns c =
     let a = l .before .before .before .args in
     let gs = gatesOf (a .gates .now) in
     let fs = leftOf (a .lines) gs (a .left-0 .now) (a .left-1 .now) in
-    (sym (l .loop .inv .1 .1 .1 ∙ best-end gs fs (l .loop .vector) (l .loop .next) (2 ^ a .lines) (omega arith)), l .loop .inv .1 .1 .0)
+    let score-is = l .loop .inv .1 .1 .0 in
+    let best-is = l .loop .inv .1 .1 .1 in
+    (sym (best-is ∙ best-end gs fs (l .loop .vector) (l .loop .next) (2 ^ a .lines) (omega arith)), score-is)
 
 pub best-spec : {M : Type 1} → statement M
 best-spec =

@@ -1,15 +1,12 @@
 -- `testsets::compact::make` meets its contract: each turn stores the next vector of the set and drops what it catches, at least half of what is left.
 -- Assumes nothing.
-use Prim.Native.Nat.{_*_, _≤_, _<_}
+use Prim.Native.Nat.{_*_}
 use mathlib.Core.Path.{ap}
-use lib.ListN.{length}
-use Rattle.testsets.specs.Sets.{bound}
 use Rattle.faults.proofs.SiteCount.{site-count-le}
 use Rattle.testsets.proofs.Picks.{compact-few}
 use native.Mathlib.Omega.{arith}
 use borrow.Author.Needs.{needs}
 use Rattle.circuit.specs.Gates.{gatesOf}
-use Rattle.circuit.specs.Sound.{Sound}
 use Rattle.testsets.proofs.PickTurns.{Picking, picking-begin, picking-place, picking-catches, picking-turn, picking-end, picking-done}
 use Rattle.testsets.proofs.PickTurns.{picking-long, picking-count, bound-fits}
 use Rattle.testsets.proofs.compact.make.Statement.{statement}
@@ -30,117 +27,135 @@ site-count-requires c κs = search needs
 
 mul-left : tie.Need-mul-left Inv-loop μ-loop
 mul-left c =
-    let a = c .before .before .before .before .args in
-    let ok : Sound (a .lines) (a .gates .now) = search needs in
-    omega (arith, c .site-count .ensures, site-count-le (a .lines) (a .gates .now) ok)
+    let start = c .before .before .before .before in
+    let a = start .args in
+    omega (arith, c .site-count .ensures, site-count-le (a .lines) (a .gates .now) (start .pre .0))
 
 loop-holds : tie.Need-loop-holds Inv-loop μ-loop
 loop-holds c =
-    let a = c .before .before .before .before .args in
-    picking-begin (a .lines) (gatesOf (a .gates .now)) (a .room .now) (c .before .all-sites .result) _ (c .before .all-sites .ensures)
+    let sites = c .before in
+    let a = sites .before .before .before .args in
+    picking-begin (a .lines) (gatesOf (a .gates .now)) (a .room .now) (sites .all-sites .result) _ (sites .all-sites .ensures)
     (ap (λ s. 2 * s) (c .site-count .ensures))
 
 best-requires : tie.Need-best-requires Inv-loop μ-loop
 best-requires c κs =
     let l = c .before .before .before in
-    (search needs, (l .loop .inv .words-on, search needs))
+    let start = l .before .before .before .before .before in
+    (start .pre .0, (l .loop .inv .words-on, start .pre .1 .0))
 
 mul-room : tie.Need-mul-room Inv-loop μ-loop
 mul-room c =
     let l = c .before .before .before .before in
-    let a = l .before .before .before .before .before .args in
-    let gs = gatesOf (a .gates .now) in
-    let ok : Sound (a .lines) (a .gates .now) = search needs in
-    omega (arith, bound-fits (a .lines) (a .gates .now) ok, picking-count (a .lines) gs (ok .gates-ok) _ _ _ _ _ _ (l .loop .inv))
+    let start = l .before .before .before .before .before in
+    let a = start .args in
+    let ok = start .pre .0 in
+    omega (
+      arith,
+      bound-fits (a .lines) (a .gates .now) ok,
+      picking-count (a .lines) (gatesOf (a .gates .now)) (ok .gates-ok) _ _ _ _ _ _ (l .loop .inv),
+    )
 
 slice-write-room : tie.Need-slice-write-room Inv-loop μ-loop
 slice-write-room c =
-    let l = c .before .before .before .before in
-    let a = l .before .before .before .before .before .args in
+    let turn = c .before .before .before in
+    let l = turn .before in
+    let start = l .before .before .before .before .before in
+    let a = start .args in
     let gs = gatesOf (a .gates .now) in
-    let some : 0 < l .loop .left = omega arith in
-    let ok : Sound (a .lines) (a .gates .now) = search needs in
-    let wide : bound (a .lines) gs ≤ length (a .room .now) = search needs in
+    let ok = start .pre .0 .gates-ok in
+    let wide = start .pre .1 .1 in
     omega (
       arith,
-      picking-place (a .lines) gs (ok .gates-ok) _ _ _ _ _ _ (l .loop .inv) some,
-      compact-few (a .lines) gs (ok .gates-ok),
-      picking-long (a .lines) gs (ok .gates-ok) _ _ _ _ _ _ (l .loop .inv) wide,
+      picking-place (a .lines) gs ok _ _ _ _ _ _ (l .loop .inv) (turn .loop-test .taken),
+      compact-few (a .lines) gs ok,
+      picking-long (a .lines) gs ok _ _ _ _ _ _ (l .loop .inv) wide,
     )
 
 drop-caught-requires : tie.Need-drop-caught-requires Inv-loop μ-loop
 drop-caught-requires c κs =
     let l = c .before .before .before .before .before .before in
-    (search needs, l .loop .inv .words-on)
+    let start = l .before .before .before .before .before in
+    (start .pre .0, l .loop .inv .words-on)
 
 sub-left : tie.Need-sub-left Inv-loop μ-loop
 sub-left c =
-    let l = c .before .before .before .before .before .before .before .before in
-    let a = l .before .before .before .before .before .args in
+    let picked = c .before .before .before .before in
+    let turn = picked .before .before .before in
+    let l = turn .before in
+    let start = l .before .before .before .before .before in
+    let a = start .args in
     let gs = gatesOf (a .gates .now) in
-    let some : 0 < l .loop .left = omega arith in
-    let ok : Sound (a .lines) (a .gates .now) = search needs in
-    let b = c .before .before .before .before in
-    picking-catches (a .lines) gs (ok .gates-ok) _ _ _ _ _ _ (l .loop .inv) some _ _ (b .best .ensures .0) (b .best .ensures .1) .1
+    let ok = start .pre .0 .gates-ok in
+    picking-catches (a .lines) gs ok _ _ _ _ _ _ (l .loop .inv) (turn .loop-test .taken) _ _ (picked .best .ensures .0) (picked .best .ensures .1) .1
 
 add-count : tie.Need-add-count Inv-loop μ-loop
 add-count c =
-    let l = c .before .before .before .before .before .before .before .before in
-    let a = l .before .before .before .before .before .args in
-    let gs = gatesOf (a .gates .now) in
-    let ok : Sound (a .lines) (a .gates .now) = search needs in
-    omega (arith, bound-fits (a .lines) (a .gates .now) ok, picking-count (a .lines) gs (ok .gates-ok) _ _ _ _ _ _ (l .loop .inv))
+    let picked = c .before .before .before .before in
+    let l = picked .before .before .before .before in
+    let start = l .before .before .before .before .before in
+    let a = start .args in
+    let ok = start .pre .0 in
+    omega (
+      arith,
+      bound-fits (a .lines) (a .gates .now) ok,
+      picking-count (a .lines) (gatesOf (a .gates .now)) (ok .gates-ok) _ _ _ _ _ _ (l .loop .inv),
+    )
 
 loop-less : tie.Need-loop-less Inv-loop μ-loop
 loop-less c =
-    let l = c .before .before .before .before .before .before .before .before in
-    let a = l .before .before .before .before .before .args in
+    let picked = c .before .before .before .before in
+    let turn = picked .before .before .before in
+    let l = turn .before in
+    let start = l .before .before .before .before .before in
+    let a = start .args in
     let gs = gatesOf (a .gates .now) in
-    let some : 0 < l .loop .left = omega arith in
-    let ok : Sound (a .lines) (a .gates .now) = search needs in
-    let b = c .before .before .before .before in
-    let most = picking-catches (a .lines) gs (ok .gates-ok) _ _ _ _ _ _ (l .loop .inv) some _ _ (b .best .ensures .0) (b .best .ensures .1) in
+    let ok = start .pre .0 .gates-ok in
+    let most = picking-catches (a .lines) gs ok _ _ _ _ _ _ (l .loop .inv) (turn .loop-test .taken) _ _ (picked .best .ensures .0)
+    (picked .best .ensures .1) in
     omega arith
 
 loop-again : tie.Need-loop-again Inv-loop μ-loop
 loop-again c =
-    let l = c .before .before .before .before .before .before .before .before in
-    let a = l .before .before .before .before .before .args in
+    let picked = c .before .before .before .before in
+    let turn = picked .before .before .before in
+    let l = turn .before in
+    let start = l .before .before .before .before .before in
+    let a = start .args in
     let gs = gatesOf (a .gates .now) in
-    let some : 0 < l .loop .left = omega arith in
-    let wide : bound (a .lines) gs ≤ length (a .room .now) = search needs in
-    let ok : Sound (a .lines) (a .gates .now) = search needs in
-    let b = c .before .before .before .before in
-    let d = c .before .drop-caught in
-    picking-turn (a .lines) gs (ok .gates-ok) _ _ _ _ _ _ (l .loop .inv) some _ _ _ _ (b .best .ensures .0) (b .best .ensures .1) (d .ensures .0)
-    (d .ensures .1) wide
+    let ok = start .pre .0 .gates-ok in
+    let dropped = c .before .drop-caught .ensures in
+    let wide = start .pre .1 .1 in
+    picking-turn (a .lines) gs ok _ _ _ _ _ _ (l .loop .inv) (turn .loop-test .taken) _ _ _ _ (picked .best .ensures .0) (picked .best .ensures .1)
+    (dropped .0) (dropped .1) wide
 
 cast-result : tie.Need-cast-result Inv-loop μ-loop
 cast-result c =
     let l = c .before in
-    let a = l .before .before .before .before .before .args in
-    let gs = gatesOf (a .gates .now) in
-    let ok : Sound (a .lines) (a .gates .now) = search needs in
-    omega (arith, bound-fits (a .lines) (a .gates .now) ok, picking-count (a .lines) gs (ok .gates-ok) _ _ _ _ _ _ (l .loop .inv))
+    let start = l .before .before .before .before .before in
+    let a = start .args in
+    let ok = start .pre .0 in
+    omega (
+      arith,
+      bound-fits (a .lines) (a .gates .now) ok,
+      picking-count (a .lines) (gatesOf (a .gates .now)) (ok .gates-ok) _ _ _ _ _ _ (l .loop .inv),
+    )
 
 same-length : tie.Need-same-length Inv-loop μ-loop
 same-length c =
     let l = c .before in
-    let a = l .before .before .before .before .before .args in
-    let gs = gatesOf (a .gates .now) in
-    let wide : bound (a .lines) gs ≤ length (a .room .now) = search needs in
-    let ok : Sound (a .lines) (a .gates .now) = search needs in
-    picking-long (a .lines) gs (ok .gates-ok) _ _ _ _ _ _ (l .loop .inv) wide
+    let start = l .before .before .before .before .before in
+    let a = start .args in
+    picking-long (a .lines) (gatesOf (a .gates .now)) (start .pre .0 .gates-ok) _ _ _ _ _ _ (l .loop .inv) (start .pre .1 .1)
 
 returns : tie.Need-returns Inv-loop μ-loop
 returns c =
     let l = c .before in
-    let a = l .before .before .before .before .before .args in
+    let start = l .before .before .before .before .before in
+    let a = start .args in
     let gs = gatesOf (a .gates .now) in
-    let ok : Sound (a .lines) (a .gates .now) = search needs in (
-      picking-end (a .lines) gs (ok .gates-ok) _ _ _ _ _ _ (l .loop .inv) (omega arith),
-      picking-done (a .lines) gs (ok .gates-ok) _ _ _ _ _ _ (l .loop .inv) (omega arith),
-    )
+    let ok = start .pre .0 .gates-ok in
+    (picking-end (a .lines) gs ok _ _ _ _ _ _ (l .loop .inv) (omega arith), picking-done (a .lines) gs ok _ _ _ _ _ _ (l .loop .inv) (omega arith))
 
 pub make-spec : {M : Type 1} → statement M
 make-spec =

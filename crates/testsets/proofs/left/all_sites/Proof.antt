@@ -1,10 +1,11 @@
 -- `testsets::left::all_sites` meets its contract: each turn stores the sites of one level. Assumes nothing.
-use lib.ListN.{length, replicate, length-set, length-replicate}
 use Prim.Native.Nat.{ℕ, _+_, _-_, _≤_}
-use mathlib.Core.Path.{_≡_, _∙_}
+use mathlib.Core.Path.{_≡_, refl, ap, _∙_}
 use native.Mathlib.Omega.{arith}
+use lib.ListN.{length, replicate, length-replicate}
 use borrow.Author.Needs.{needs}
 use Rattle.circuit.specs.Gates.{gatesOf}
+use Rattle.circuit.specs.Limits.{levels}
 use Rattle.circuit.proofs.GateLaws.{gates-count}
 use Rattle.faults.specs.Sites.{sites}
 use Rattle.testsets.proofs.Changes.{Changed, changed-none, changed-more}
@@ -14,7 +15,7 @@ use Rattle.testsets.proofs.left.all_sites.Tie as tie
 abbrev Inv-loop : tie.InvT-loop
 Inv-loop lines gates end left₀ i₀ left i =
     (end ≡ length (gatesOf gates) + 1) × ((i ≤ end)
-    × ((length left ≡ 1025) × Changed (λ k w. sites lines (gatesOf gates) k) i left₀ left))
+    × ((length left₀ ≡ levels) × Changed (λ k w. sites lines (gatesOf gates) k) i left₀ left))
 
 abbrev μ-loop : tie.MeasureT-loop
 μ-loop lines gates end left₀ i₀ left i = end - i
@@ -24,11 +25,11 @@ add-end c = omega arith
 
 loop-holds : tie.Need-loop-holds Inv-loop μ-loop
 loop-holds c =
-    let long : length (replicate {A = ℕ} 1025 0) ≡ 1025 = length-replicate {A = ℕ} 1025 0 in
+    let long : length (replicate {A = ℕ} levels 0) ≡ levels = length-replicate {A = ℕ} levels 0 in
     (omega (arith, gates-count (c .before .args .gates .now)), (omega arith, (long, changed-none _ _)))
 
-cast-sites-at : tie.Need-cast-sites-at Inv-loop μ-loop
-cast-sites-at c = omega arith
+level-requires : tie.Need-level-requires Inv-loop μ-loop
+level-requires c κs = search needs
 
 sites-at-requires : tie.Need-sites-at-requires Inv-loop μ-loop
 sites-at-requires c κs = search needs
@@ -47,23 +48,25 @@ loop-less c = omega arith
 
 loop-again : tie.Need-loop-again Inv-loop μ-loop
 loop-again c =
-    let l = c .before .before in
+    let leveled = c .before in
+    let l = leveled .before .before in
+    let a = l .before .before .args in
     let i = l .loop .i in
-    let w = c .sites-at .result in (
+    let word = c .sites-at .ensures ∙ ap (sites (a .lines) (gatesOf (a .gates .now))) (leveled .level .ensures) in
+    let long = l .loop .inv .1 .1 .0 in
+    let changed = l .loop .inv .1 .1 .1 in (
       l .loop .inv .0,
       (
         omega arith,
-        (
-          length-set (l .loop .left) i w ∙ l .loop .inv .1 .1 .0,
-          changed-more _ _ (l .loop .left) i w (omega arith) (l .loop .inv .1 .1 .1) (c .sites-at .ensures),
-        ),
+        (long, changed-more _ _ (l .loop .left) i i _ refl (omega (arith, changed .long)) changed word),
       ),
     )
 
 returns : tie.Need-returns Inv-loop μ-loop
 returns c =
     let l = c .before in
-    record { wide = omega arith; every = λ k h. l .loop .inv .1 .1 .1 .done k (omega arith) }
+    let changed = l .loop .inv .1 .1 .1 in
+    record { wide = omega (arith, changed .long); every = λ k h. changed .done k (omega arith) }
 
 pub all-sites-spec : {M : Type 1} → statement M
 all-sites-spec =
@@ -73,7 +76,7 @@ all-sites-spec =
     μ-loop
     add-end
     loop-holds
-    cast-sites-at
+    level-requires
     sites-at-requires
     mul-left
     array-write-left

@@ -1,27 +1,23 @@
--- `testsets::left::score` meets its contract: each turn adds what the vector catches at one level and goes one level up. Assumes nothing.
-use Rattle.testsets.proofs.LeftLaws.{caughtFrom, score-all, score-more, score-last}
-use Rattle.circuit.specs.Sound.{Sound}
-use Rattle.testsets.specs.Left.{leftOf, Left}
-use Prim.Native.Nat.{_+_, _-_, _*_, _/_, _≤_}
-use mathlib.Core.Path.{_≡_, sym, _∙_}
+-- `testsets::left::score` meets its contract: each turn adds what the vector catches at one level and goes one level up, and the last level
+-- comes after the loop. Assumes nothing.
+use Prim.Native.Nat.{_+_, _-_, _*_, _≤_}
+use mathlib.Core.Path.{_≡_}
 use native.Mathlib.Omega.{arith}
 use borrow.Author.Needs.{needs}
-use lib.ListN.{length}
-use Rattle.circuit.specs.Gates.{gatesOf}
-use Rattle.circuit.specs.Runs.{forward}
-use Rattle.circuit.proofs.GateLaws.{gates-count}
-use Rattle.circuit.proofs.RuleLaws.{target-fits}
-use Rattle.circuit.proofs.RunLaws.{forward-none}
 use Rattle.words.proofs.AndLaws.{length-lines-le}
+use Rattle.circuit.specs.Gates.{gatesOf}
+use Rattle.circuit.specs.Limits.{mostLines}
+use Rattle.marking.proofs.TurnLaws.{Walk, walk-start, walk-target, walk-more}
+use Rattle.testsets.specs.Left.{leftOf}
 use Rattle.testsets.specs.Sets.{score}
-use Rattle.testsets.proofs.Levels.{next-level}
+use Rattle.testsets.proofs.LeftLaws.{caughtFrom, score-all, score-more, score-last}
 use Rattle.testsets.proofs.left.score.Statement.{statement}
 use Rattle.testsets.proofs.left.score.Tie as tie
 
 abbrev Inv-loop : tie.InvT-loop
 Inv-loop lines gates left-0 left-1 vector ones last sum₀ state₀ i₀ sum state i =
-    (last ≡ length (gatesOf gates)) × ((i ≤ last) × ((state ≡ forward (gatesOf gates) i vector) × ((sum ≤ 32 * i)
-    × (score (gatesOf gates) (leftOf lines (gatesOf gates) left-0 left-1) vector ≡ sum + caughtFrom lines (gatesOf gates) left-0 left-1 vector i))))
+    Walk gates vector last state i × ((sum ≤ mostLines * i)
+    × (score (gatesOf gates) (leftOf lines (gatesOf gates) left-0 left-1) vector ≡ sum + caughtFrom lines (gatesOf gates) left-0 left-1 vector i))
 
 abbrev μ-loop : tie.MeasureT-loop
 μ-loop lines gates left-0 left-1 vector ones last sum₀ state₀ i₀ sum state i = last - i
@@ -31,35 +27,22 @@ all-ones-requires c κs = omega arith
 
 loop-holds : tie.Need-loop-holds Inv-loop μ-loop
 loop-holds c =
-    let a = c .before .before .args in
-    let gs = gatesOf (a .gates .now) in
-    let ok : Sound (a .lines) (a .gates .now) = search needs in
-    let on : Left (a .lines) gs (a .left-0 .now) (a .left-1 .now) = search needs in
-    let all = score-all (a .lines) gs (ok .gates-ok) (a .left-0 .now) (a .left-1 .now) on (a .vector) in
-    (sym (gates-count (a .gates .now)), (omega arith, (sym (forward-none gs (a .vector)), (omega arith, omega (arith, all)))))
-
-mul-newly : tie.Need-mul-newly Inv-loop μ-loop
-mul-newly c = omega arith
-
-element-copy-out-newly : tie.Need-element-copy-out-newly Inv-loop μ-loop
-element-copy-out-newly c = omega arith
-
-mul-newly-2 : tie.Need-mul-newly-2 Inv-loop μ-loop
-mul-newly-2 c = omega arith
-
-element-copy-out-newly-2 : tie.Need-element-copy-out-newly-2 Inv-loop μ-loop
-element-copy-out-newly-2 c = omega arith
-
-newly-requires : tie.Need-newly-requires Inv-loop μ-loop
-newly-requires c κs = search needs
-
-add-sum : tie.Need-add-sum Inv-loop μ-loop
-add-sum c =
-    let few : c .newly .result ≤ 32 = rw (c .newly .ensures) (length-lines-le 32 _) in
-    omega arith
+    let start = c .before .before in
+    let a = start .args in
+    let all = score-all (a .lines) (gatesOf (a .gates .now)) (start .pre .0 .gates-ok) (a .left-0 .now) (a .left-1 .now) (start .pre .1 .0)
+    (a .vector) in
+    (walk-start (a .gates .now) (a .vector), (omega arith, omega (arith, all)))
 
 level-requires : tie.Need-level-requires Inv-loop μ-loop
 level-requires c κs = search needs
+
+newly-requires : tie.Need-newly-requires Inv-loop μ-loop
+newly-requires c κs = omega arith
+
+add-sum : tie.Need-add-sum Inv-loop μ-loop
+add-sum c =
+    let few : c .newly .result ≤ mostLines = rw (c .newly .ensures) (length-lines-le mostLines _) in
+    omega arith
 
 gate-after-requires : tie.Need-gate-after-requires Inv-loop μ-loop
 gate-after-requires c κs = omega arith
@@ -69,9 +52,13 @@ gate-at-requires c κs = omega arith
 
 step-requires : tie.Need-step-requires Inv-loop μ-loop
 step-requires c κs =
-    let l = c .before .before .before .before .before .before .before in
-    let a = l .before .before .before .args in
-    rw (c .gate-at .ensures) (target-fits (a .lines) (a .gates .now) _ (search needs) (omega arith) (omega arith))
+    let counted = c .before .before in
+    let turn = counted .before .before in
+    let l = turn .before in
+    let start = l .before .before .before in
+    let a = start .args in
+    walk-target (a .lines) (a .gates .now) (start .pre .0) (a .vector) _ (l .loop .state) (l .loop .i) (l .loop .inv .0)
+    (turn .loop-test .taken) (c .gate-at .result) (c .before .gate-after .result .0) (c .gate-at .ensures) (omega arith)
 
 add-i : tie.Need-add-i Inv-loop μ-loop
 add-i c = omega arith
@@ -81,47 +68,47 @@ loop-less c = omega arith
 
 loop-again : tie.Need-loop-again Inv-loop μ-loop
 loop-again c =
-    let l = c .before .before .before .before .before .before .before .before in
-    let a = l .before .before .before .args in
-    let gs = gatesOf (a .gates .now) in
-    let n = c .before .before .before .before in
-    let ok : Sound (a .lines) (a .gates .now) = search needs in
-    let few : n .newly .result ≤ 32 = rw (n .newly .ensures) (length-lines-le 32 _) in
-    let more = score-more (a .lines) gs (ok .gates-ok) (a .left-0 .now) (a .left-1 .now) (a .vector) (l .loop .i) (l .loop .state) _
-    (ok .lines-fit) (search needs) (omega arith) (l .before .all-ones .ensures) (l .loop .inv .1 .1 .0) in
-    let up = c .step .ensures ∙ next-level gs (l .loop .i) (a .vector) (l .loop .state) _ _ (omega arith) (l .loop .inv .1 .1 .0) (omega arith)
-    (c .before .gate-at .ensures) in
-    (l .loop .inv .0, (omega arith, (up, (omega arith, omega (arith, more, n .newly .ensures)))))
+    let counted = c .before .before .before in
+    let leveled = counted .before in
+    let turn = leveled .before in
+    let l = turn .before in
+    let ones = l .before .all-ones .ensures in
+    let start = l .before .before .before in
+    let a = start .args in
+    let ok = start .pre .0 in
+    let i = l .loop .i in
+    let walk = l .loop .inv .0 in
+    let few : counted .newly .result ≤ mostLines = rw (counted .newly .ensures) (length-lines-le mostLines _) in
+    let more = score-more (a .lines) (gatesOf (a .gates .now)) (ok .gates-ok) (a .left-0 .now) (a .left-1 .now) (a .vector) i
+    (leveled .level .result .0) (l .loop .state) _ (ok .lines-fit) (start .pre .1 .1) (omega arith) (leveled .level .ensures) ones (walk .here) in (
+      rw (c .step .ensures) (walk-more (a .lines) (a .gates .now) ok (a .vector) _ (l .loop .state) i walk
+          (turn .loop-test .taken) (c .before .gate-at .result) (c .before .before .gate-after .result .0) (c .before .gate-at .ensures)
+          (omega arith)),
+      (omega arith, omega (arith, more, counted .newly .ensures)),
+    )
 
-mul-newly-3 : tie.Need-mul-newly-3 Inv-loop μ-loop
-mul-newly-3 c = omega arith
-
-element-copy-out-newly-3 : tie.Need-element-copy-out-newly-3 Inv-loop μ-loop
-element-copy-out-newly-3 c = omega arith
-
-mul-newly-4 : tie.Need-mul-newly-4 Inv-loop μ-loop
-mul-newly-4 c = omega arith
-
-element-copy-out-newly-4 : tie.Need-element-copy-out-newly-4 Inv-loop μ-loop
-element-copy-out-newly-4 c = omega arith
+level-requires-2 : tie.Need-level-requires-2 Inv-loop μ-loop
+level-requires-2 c κs = search needs
 
 newly-requires-2 : tie.Need-newly-requires-2 Inv-loop μ-loop
-newly-requires-2 c κs = search needs
+newly-requires-2 c κs = omega arith
 
 add-result : tie.Need-add-result Inv-loop μ-loop
 add-result c =
-    let few : c .newly2 .result ≤ 32 = rw (c .newly2 .ensures) (length-lines-le 32 _) in
+    let few : c .newly2 .result ≤ mostLines = rw (c .newly2 .ensures) (length-lines-le mostLines _) in
     omega arith
 
 returns : tie.Need-returns Inv-loop μ-loop
 returns c =
-    let l = c .before .before .before .before in
-    let a = l .before .before .before .args in
-    let gs = gatesOf (a .gates .now) in
-    let ok : Sound (a .lines) (a .gates .now) = search needs in
-    let last = score-last (a .lines) gs (ok .gates-ok) (a .left-0 .now) (a .left-1 .now) (a .vector) (l .loop .i) (length (a .gates .now) / 3)
-    (l .loop .state) _
-    (ok .lines-fit) (search needs) (omega arith) (omega arith) (l .before .all-ones .ensures) (l .loop .inv .1 .1 .0) in
+    let leveled = c .before in
+    let l = leveled .before .before in
+    let ones = l .before .all-ones .ensures in
+    let start = l .before .before .before in
+    let a = start .args in
+    let ok = start .pre .0 in
+    let walk = l .loop .inv .0 in
+    let last = score-last (a .lines) (gatesOf (a .gates .now)) (ok .gates-ok) (a .left-0 .now) (a .left-1 .now) (a .vector) (l .loop .i)
+    (leveled .level2 .result .0) (l .loop .state) _ (ok .lines-fit) (start .pre .1 .1) (omega arith) (omega arith) ones (walk .here) (omega arith) in
     omega (arith, last, c .newly2 .ensures)
 
 pub score-spec : {M : Type 1} → statement M
@@ -132,23 +119,16 @@ score-spec =
     μ-loop
     all-ones-requires
     loop-holds
-    mul-newly
-    element-copy-out-newly
-    mul-newly-2
-    element-copy-out-newly-2
+    level-requires
     newly-requires
     add-sum
-    level-requires
     gate-after-requires
     gate-at-requires
     step-requires
     add-i
     loop-less
     loop-again
-    mul-newly-3
-    element-copy-out-newly-3
-    mul-newly-4
-    element-copy-out-newly-4
+    level-requires-2
     newly-requires-2
     add-result
     returns)

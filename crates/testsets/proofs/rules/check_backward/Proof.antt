@@ -18,9 +18,10 @@ enum-known-refusal c = search needs
 returns : tie.Need-returns
 unfolding backwardRows
 returns c =
-    let a = c .before .before .before .before .before .args in
+    let checked = c .before .before .before in
+    let a = checked .before .before .args in
     refused-on (circuitRows (a .lines) (a .gates .now)) _ fine _ _
-    (ap found (sym (c .before .refusal .given .1)) ∙ c .before .before .before .check-circuit .ensures)
+    (ap found (sym (c .before .refusal .given .1)) ∙ checked .check-circuit .ensures)
 
 enum-told : tie.Need-enum-told
 enum-told c = search needs
@@ -30,14 +31,16 @@ add-if1 c = search needs
 
 returns-2 : tie.Need-returns-2
 returns-2 c =
-    let a = c .before .before .before .before .before .args in
-    let passed = ap found (sym (c .before .enum-told .given .1)) ∙ c .before .before .before .check-circuit .ensures in
+    let checked = c .before .before .before in
+    let a = checked .before .before .args in
+    let passed = ap found (sym (c .before .enum-told .given .1)) ∙ checked .check-circuit .ensures in
     backward-short (a .lines) (a .gates .now) (a .room) passed (c .if1 .taken)
 
 returns-3 : tie.Need-returns-3
 returns-3 c =
-    let a = c .before .before .before .before .before .args in
-    let passed = ap found (sym (c .before .enum-told .given .1)) ∙ c .before .before .before .check-circuit .ensures in
+    let checked = c .before .before .before in
+    let a = checked .before .before .args in
+    let passed = ap found (sym (c .before .enum-told .given .1)) ∙ checked .check-circuit .ensures in
     backward-fine (a .lines) (a .gates .now) (a .room) passed (c .if1 .left)
 
 pub check-backward-spec : {M : Type 1} → statement M

@@ -20,39 +20,44 @@ enum-known-refusal c = search needs
 returns : tie.Need-returns
 unfolding compactRows
 returns c =
-    let a = c .before .before .before .before .before .args in
+    let checked = c .before .before .before in
+    let a = checked .before .before .args in
     refused-on (circuitRows (a .lines) (a .gates .now)) _ fine _ _
-    (ap found (sym (c .before .refusal .given .1)) ∙ c .before .before .before .check-circuit .ensures)
+    (ap found (sym (c .before .refusal .given .1)) ∙ checked .check-circuit .ensures)
 
 enum-told : tie.Need-enum-told
 enum-told c = search needs
 
 returns-2 : tie.Need-returns-2
 returns-2 c =
-    let a = c .before .before .before .before .before .args in
-    let passed = ap found (sym (c .before .enum-told .given .1)) ∙ c .before .before .before .check-circuit .ensures in
+    let checked = c .before .before .before in
+    let a = checked .before .before .args in
+    let passed = ap found (sym (c .before .enum-told .given .1)) ∙ checked .check-circuit .ensures in
     compact-lines (a .lines) (a .gates .now) (a .room) passed (c .if1 .taken)
 
 bound-requires : tie.Need-bound-requires
 bound-requires c κs =
-    let a = c .before .before .before .before .before .args in
-    sound (a .lines) (a .gates .now) (ap found (sym (c .before .enum-told .given .1)) ∙ c .before .before .before .check-circuit .ensures)
+    let checked = c .before .before .before in
+    let a = checked .before .before .args in
+    sound (a .lines) (a .gates .now) (ap found (sym (c .before .enum-told .given .1)) ∙ checked .check-circuit .ensures)
 
 cast-if2 : tie.Need-cast-if2
 cast-if2 c = search needs
 
 returns-3 : tie.Need-returns-3
 returns-3 c =
-    let e = c .before .before .before in
-    let a = e .before .before .before .before .args in
-    let passed = ap found (sym (e .enum-told .given .1)) ∙ e .before .before .check-circuit .ensures in
+    let told = c .before .before .before in
+    let checked = told .before .before in
+    let a = checked .before .before .args in
+    let passed = ap found (sym (told .enum-told .given .1)) ∙ checked .check-circuit .ensures in
     compact-short (a .lines) (a .gates .now) (a .room) passed (omega arith) (rw (← c .before .bound .ensures) (c .if2 .taken))
 
 returns-4 : tie.Need-returns-4
 returns-4 c =
-    let e = c .before .before .before in
-    let a = e .before .before .before .before .args in
-    let passed = ap found (sym (e .enum-told .given .1)) ∙ e .before .before .check-circuit .ensures in
+    let told = c .before .before .before in
+    let checked = told .before .before in
+    let a = checked .before .before .args in
+    let passed = ap found (sym (told .enum-told .given .1)) ∙ checked .check-circuit .ensures in
     compact-fine (a .lines) (a .gates .now) (a .room) passed (omega arith) (rw (← c .before .bound .ensures) (c .if2 .left))
 
 pub check-compact-spec : {M : Type 1} → statement M
