@@ -50,6 +50,7 @@ jobLine n words xs = line 74 (each spaced (n ∷ length (gatesOf words) ∷ leng
 abbrev pub classLines : ℕ → ℕ → List ℕ → List ℕ → List ℕ
 classLines n classes words xs = each (classText n (gatesOf words) xs) (wanted classes)
 
+-- the text of a job is both
 unfoldable pub jobText : ℕ → ℕ → List ℕ → List ℕ → List ℕ
 jobText n classes words xs = jobLine n words xs ++ classLines n classes words xs
 
@@ -61,10 +62,12 @@ refusedText number place = line 69 (each spaced (number ∷ place ∷ []))
 abbrev pub jobRows : List ℕ → List Row
 jobRows bytes = readRows bytes (3 * mostGates) mostVectors
 
+-- what a reading tells has its refusal's text, or that of the job
 abbrev pub textOf : Told → List ℕ → List ℕ
 textOf (answered values) text = text
 textOf (refused number place) text = refusedText number place
 
+-- the text of any bytes
 unfoldable pub reportText : List ℕ → List ℕ
 reportText bytes = textOf (firstOf (jobRows bytes) fine) (jobText (linesIn bytes) (classesIn bytes) (gateWords bytes) (vectorWords bytes))
 
