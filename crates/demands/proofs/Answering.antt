@@ -8,7 +8,8 @@ use Rattle.refusals.specs.Checks.{fine}
 use Rattle.refusals.proofs.Tables.{answered-fine}
 use Rattle.demands.proofs.Refusing.{Refuses}
 
--- a call that has ended with what its contract allows
+-- a call that has ended with what its contract allows; its inputs are its arguments in their order, `inputs .0`, `inputs .1 .0` and so on, and `now`
+-- of a lent slice, there or at the exit, is what it holds
 pub record Ended {L : Type 0} {Inputs Result Exit : L → Type 0} (Post : (κs : L) → Inputs κs → Result κs → Exit κs → Type 0) : Type 0 where
   pub lifetimes : L
   pub inputs : Inputs lifetimes

@@ -42,7 +42,7 @@ pub record GivesFaulty (n : ℕ) (words : List ℕ) (x : ℕ) (f : Fault) (value
   pub circuit : Circuit n words gs
   pub fault : Has n gs f
   pub output : ℕ
-  pub told : values ≡ output ∷ []
+  pub values-are : values ≡ output ∷ []
   pub is-faulty : FaultyRuns gs f x output
 
 -- 1 where the first holds, and 0 where the second does
@@ -86,7 +86,7 @@ module _ (n : ℕ) (words : List ℕ) (x : ℕ) where
           circuit = circuit-is n words (ok .vector .circuit);
           fault = has;
           output = faulty gates f x;
-          told = refl;
+          values-are = refl;
           is-faulty = faulty-faulty n gates f has x;
         }
 

@@ -78,11 +78,11 @@ module _ {n : ℕ} {words xs : List ℕ} {class : ℕ} {values : List ℕ} (w : 
       by-shown : Shows (CaughtBySome gs xs) (CaughtByNone gs xs) (w .faults) (w .verdict .shown) → (flag ≡ 1) ↔ EveryCaught n gs class xs
       by-shown (complete all shown) = (
         λ t f c h. all-entry (CaughtBySome gs xs) (w .of-class .has-all f c h) all,
-        λ every. let told = w .verdict .told in cc,
+        λ every. let told = w .verdict .values-are in cc,
       )
       by-shown (first before f later parts front none shown) =
           let is = shown-in before f later parts in
-          let zero : flag ≡ 0 = (let told = w .verdict .told in cc) in
+          let zero : flag ≡ 0 = (let told = w .verdict .values-are in cc) in
           (λ t. absurd (omega arith), λ every. absurd (apart f (is .1) (every f (is .0) (is .1)) none))
 
   -- else the fault shown is the first that none catches
@@ -91,9 +91,9 @@ module _ {n : ℕ} {words xs : List ℕ} {class : ℕ} {values : List ℕ} (w : 
   first-means number total f e = by-shown (w .verdict .shows)
     where
       by-shown : Shows (CaughtBySome gs xs) (CaughtByNone gs xs) (w .faults) (w .verdict .shown) → FirstUncaught n gs class xs f
-      by-shown (complete all shown) = let told = w .verdict .told in let z : _≡_ {A = ℕ} 0 1 = cc in absurd (omega arith)
+      by-shown (complete all shown) = let told = w .verdict .values-are in let z : _≡_ {A = ℕ} 0 1 = cc in absurd (omega arith)
       by-shown (first before h later parts front none shown) =
-          let told = w .verdict .told in
+          let told = w .verdict .values-are in
           let class-is : h .class ≡ f .class = cc in
           let place-is : h .place ≡ f .place = cc in
           let line-is : h .line ≡ f .line = cc in
@@ -104,15 +104,15 @@ module _ {n : ℕ} {words xs : List ℕ} {class : ℕ} {values : List ℕ} (w : 
             of-class = is .0;
             is-fault = is .1;
             by-none = none;
-            earlier = λ k c has b. all-entry (CaughtBySome gs xs)
-                (stands-before before h later (subst Ordered parts (w .of-class .ordered)) k (subst (List·Memᴰ k) parts (w .of-class .has-all k c has)) b)
-                front;
+            earlier = λ k c has b.
+                let there = subst (List·Memᴰ k) parts (w .of-class .has-all k c has) in
+                all-entry (CaughtBySome gs xs) (stands-before before h later (subst Ordered parts (w .of-class .ordered)) k there b) front;
           })
 
   -- the counts are true
   pub counts-mean : (number total : ℕ) (rest : List ℕ) → values ≡ number ∷ total ∷ rest → Counted n gs class xs number total
   counts-mean number total rest e =
-      let told = w .verdict .told in
+      let told = w .verdict .values-are in
       record {
         faults = w .faults;
         of-class = w .of-class;

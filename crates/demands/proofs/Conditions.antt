@@ -1,11 +1,13 @@
 -- The condition of each class: what a vector must give at the fault's level for it to be told that it catches the fault.
-use Prim.Native.Nat.{ℕ, _-_}
+use Prim.Native.Nat.{ℕ, _-_, _≤_}
 use mathlib.Core.Path.{_≡_, sym, _∙_, subst}
 use mathlib.Core.Logic.{_↔_, _≢_, Iff·rfl, Iff·trans, Iff·and}
 use mathlib.Core.Bool.{true, true≢false}
 use mathlib.Core.List.{List, [], _∷_}
 use native.Mathlib.Omega.{arith}
 use lib.ListN.{take}
+use Rattle.basics.specs.Lists.{All}
+use Rattle.basics.proofs.All.{all-map}
 use Rattle.words.specs.Word.{bit}
 use Rattle.circuit.specs.Gates.{gateAt, noGate}
 use Rattle.circuit.specs.Controls.{isControl}
@@ -16,11 +18,11 @@ use Rattle.simulator.specs.Faulty.{faulty}
 use Rattle.faults.specs.declared.Fault.{Fault}
 use Rattle.simulator.proofs.FaultyLaws.{caught-iff}
 use Rattle.simulator.proofs.CatchLaws.{stuck-differs, missing-gate-differs, missing-control-differs, extra-control-differs}
-use Rattle.demands.proofs.Machine.{Control, AllControls, Level, gate, Caught, Missed, Has}
+use Rattle.demands.proofs.Machine.{Control, AllControls, Level, gate, Caught, Missed, CaughtTogether, Has}
 use Rattle.demands.proofs.MachineLaws.{control-iff, runs-is, circuit-ok}
-use Rattle.demands.proofs.HasLaws.{has-line, has-gate, has-control, has-no-control}
-use Rattle.demands.proofs.FaultyLaws.{caught-means, missed-means}
-use Rattle.demands.proofs.Catching.{TellsCaught, Says}
+use Rattle.demands.proofs.HasLaws.{has-line, has-value, has-gate, has-control, has-no-control}
+use Rattle.demands.proofs.FaultyLaws.{caught-means, missed-means, together-means, missed-together-means}
+use Rattle.demands.proofs.Catching.{TellsCaught, TellsCaughtTogether, Says}
 use Rattle.demands.proofs.Catching.Says.{says-1, says-0}
 
 -- 1 is told exactly if the condition of the class holds: of s, the state at the fault's level, or for a gate fault at the level that gate g reads
@@ -42,6 +44,7 @@ told-1 : {First Second : Type 0} {values : List ℕ} → Says First Second value
 told-1 (says-1 h e) apart = (λ t. h, λ k. e)
 told-1 (says-0 h e) apart = (λ t. let z : _≡_ {A = ℕ} 0 1 = cc in absurd (omega arith), λ k. absurd (apart k h))
 
+-- never both
 pub not-both : (n : ℕ) (gs : List Gate) (f : Fault) → Has n gs f → (x : ℕ) → Caught gs f x → Missed gs f x → ⊥
 not-both n gs f h x c m = true≢false (sym (caught-means n gs f h x .1 c) ∙ missed-means n gs f h x .1 m)
 
@@ -99,3 +102,12 @@ module _ {n : ℕ} {words : List ℕ} {x : ℕ} {f : Fault} {values : List ℕ} 
             (extra-control-differs n gs ok f x (q .0) (q .1) e (has-no-control n gs f (w .fault) e)))
             (Iff·and Iff·rfl (spelled-all (gateAt gs p) s)));
       }
+
+-- of several faults together
+pub told-together : {n : ℕ} {words : List ℕ} {x : ℕ} {list values : List ℕ} (w : TellsCaughtTogether n words x list values)
+    → (values ≡ 1 ∷ []) ↔ CaughtTogether (w .gs) (w .fs) x
+told-together {n} {x = x} w =
+    let values : All (λ f. f .value ≤ 1) (w .fs) = all-map (λ f k. has-value n (w .gs) f (k .1) (k .0)) (w .fs) (w .multiple .stuck) in
+    let once = w .multiple .once in
+    told-1 (w .says)
+    (λ c m. true≢false (sym (together-means (w .gs) (w .fs) values once x .1 c) ∙ missed-together-means (w .gs) (w .fs) values once x .1 m))

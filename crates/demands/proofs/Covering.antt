@@ -21,8 +21,8 @@ use Rattle.judge.specs.Rules.{countRows}
 use Rattle.judge.specs.Answers.{toldVerdict, toldBeside}
 use Rattle.judge.specs.declared.coverage.Coverage.{Coverage}
 use Rattle.judge.proofs.RuleLaws.{count-ok}
-use Rattle.judge.proofs.Theorems.{coverage-is-judge}
-use Rattle.judge.proofs.MeanLaws.{empty-sized, empty-unmarked}
+use Rattle.judge.proofs.SetLaws.{judge-is-coverage}
+use Rattle.judge.proofs.CoverLaws.{empty-sized, empty-unmarked}
 use Rattle.judge.proofs.coverage.Coverage.empty.Reads as coverage-empty
 use Rattle.judge.proofs.coverage.Coverage.with_vector.Reads as coverage-with-vector
 use Rattle.judge.proofs.coverage.Coverage.count.Reads as coverage-count
@@ -103,9 +103,10 @@ covers-judges n words xs call covers lines gates values told =
     let same = covers-all n words xs (call .inputs .0) covers in
     let promise : answered values ≡ firstOf (countRows n words class) (answered (toldOf (isMarked c) (classFaults n gs class))) =
     sym told ∙ call .promised
-    ∙ (λ i. firstOf (countRows (lines i) (gates i) class) (answered (toldOf (isMarked (same i)) (classFaults (lines i) (gatesOf (gates i)) class)))) in
+    ∙ (λ i. firstOf (countRows (lines i) (gates i) class)
+    (answered (toldOf (isMarked (same i)) (classFaults (lines i) (gatesOf (gates i)) class)))) in
     let w = answered-fine (countRows n words class) values (toldOf (isMarked c) (classFaults n gs class)) promise in
     let ok = count-ok n words class (w .1) in
-    let agrees = coverage-is-judge n words xs class (ok .circuit) (ok .class-in .0) (ok .class-in .1) in
+    let agrees = judge-is-coverage n words xs (ok .circuit) class in
     let as-judged : values ≡ toldOf (caughtBySome gs xs) (classFaults n gs class) = w .0 ∙ cc in
     subst (Judges n words xs class) (sym as-judged) (judges n words xs class (ok .circuit))

@@ -1,7 +1,7 @@
 -- Demand 2, over the contracts: runs undo each other at every level; caught means exactly that the output of the faulty circuit differs, and each
 -- class has its condition for that; complete means exactly that all faults of the class are caught, and otherwise the first uncaught fault and true
--- counts are shown. What each call answers stands in `Runs`, `Catching`, `Testing`, `Judging`, `Covering` and `Dropping`, in the words of `Machine` and
--- `FaultLists`; here stand the sentences of the demand that follow.
+-- counts are shown. What each call answers stands in `Runs`, `Catching`, `Testing`, `Judging`, `Covering` and `Dropping`, in the words of
+-- `Machine` and `FaultLists`; here stand the sentences of the demand that follow.
 use Prim.Native.Nat.{ℕ, suc, _-_, _/_, _%_, _^_, _≤_}
 use mathlib.Core.Path.{_≡_, refl, ap, subst}
 use mathlib.Core.Logic.{_↔_}
@@ -21,20 +21,25 @@ use Rattle.circuit.proofs.backward.Reads as backward
 use Rattle.simulator.specs.Answers.{toldCaught}
 use Rattle.faults.specs.declared.Fault.{Fault}
 use Rattle.simulator.proofs.catches.Reads as catches
+use Rattle.simulator.proofs.catches_multiple.Reads as catches-multiple
 use Rattle.judge.specs.Answers.{toldVerdict}
 use Rattle.judge.proofs.judge.Reads as judge
+use Rattle.judge.proofs.covering.cover.Reads as cover
 use Rattle.answers.specs.declared.Run.{Run}
 use Rattle.nufsadeem.proofs.nuf_forward.Reads as c-forward
 use Rattle.nufsadeem.proofs.nuf_backward.Reads as c-backward
 use Rattle.nufsadeem.proofs.nuf_catches.Reads as c-catches
+use Rattle.nufsadeem.proofs.nuf_catches_multiple.Reads as c-catches-multiple
 use Rattle.nufsadeem.proofs.judging.nuf_judge.Reads as c-judge
-use Rattle.demands.proofs.Machine.{Control, Makes, gate, Circuit, Caught}
+use Rattle.nufsadeem.proofs.judging.nuf_cover.Reads as c-cover
+use Rattle.demands.proofs.Machine.{Control, Makes, gate, Circuit, Caught, CaughtTogether, records}
 use Rattle.demands.proofs.Answering.{Answers, Ended}
 use Rattle.demands.proofs.InC.{toldBy, tells-answer, told-in-c, AnswersInC}
 use Rattle.demands.proofs.Runs.{RunsForward, forward-means, level-none, level-more, back-again, forth-again}
-use Rattle.demands.proofs.Catching.{TellsCaught, catches-means, catches-in-c}
-use Rattle.demands.proofs.Conditions.{Conditions, conditions, told-caught}
-use Rattle.demands.proofs.Judging.{Judges, judge-means, judge-in-c}
+use Rattle.demands.proofs.Catching.{TellsCaught, TellsCaughtTogether, catches-means, catches-in-c}
+use Rattle.demands.proofs.Catching.{catches-multiple-means, catches-multiple-in-c}
+use Rattle.demands.proofs.Conditions.{Conditions, conditions, told-caught, told-together}
+use Rattle.demands.proofs.Judging.{Judges, judge-means, judge-in-c, cover-means, cover-in-c}
 use Rattle.demands.proofs.Completeness.{EveryCaught, FirstUncaught, Counted, complete-means, first-means, counts-mean}
 use Rattle.demands.proofs.Demand1OfC as refusing-in-c
 
@@ -155,6 +160,26 @@ pub catches-exactly-in-c : AnswersInC c-catches.Post (λ κs r. r .number) (λ �
     (λ κs a values e. CaughtExactly (a .0) (now (a .1 .0)) (a .1 .1 .0) (a .1 .1 .1 .0) values)
 catches-exactly-in-c = record { as-said = λ call z. caught-exactly (catches-in-c .as-said call z) }
 
+-- of a multiple fault, only the whole faulty run decides
+pub record TogetherExactly (n : ℕ) (words : List ℕ) (x : ℕ) (list values : List ℕ) : Type 0 where
+  pub gs : List Gate
+  pub circuit : Circuit n words gs
+  pub fs : List Fault
+  pub lent : list ≡ records fs
+  pub by-output : (values ≡ 1 ∷ []) ↔ CaughtTogether gs fs x
+
+together-exactly : {n : ℕ} {words : List ℕ} {x : ℕ} {list values : List ℕ} → TellsCaughtTogether n words x list values
+    → TogetherExactly n words x list values
+together-exactly w = record { gs = w .gs; circuit = w .circuit; fs = w .fs; lent = w .lent; by-output = told-together w }
+
+pub catches-multiple-exactly : Answers catches-multiple.Post (λ κs. toldCaught)
+    (λ κs a values e. TogetherExactly (a .0) (now (a .1 .0)) (a .1 .1 .0) (now (a .1 .1 .1 .0)) values)
+catches-multiple-exactly = record { as-said = λ call values t. together-exactly (catches-multiple-means .as-said call values t) }
+
+pub catches-multiple-exactly-in-c : AnswersInC c-catches-multiple.Post (λ κs r. r .number) (λ κs r. r .caught ∷ [])
+    (λ κs a values e. TogetherExactly (a .0) (now (a .1 .0)) (a .1 .1 .0) (now (a .1 .1 .1 .0)) values)
+catches-multiple-exactly-in-c = record { as-said = λ call z. together-exactly (catches-multiple-in-c .as-said call z) }
+
 -- ---- complete: exactly that every fault of the class is caught by some vector; otherwise the first that none catches is shown
 
 pub record CompleteExactly (n : ℕ) (words xs : List ℕ) (class : ℕ) (values : List ℕ) : Type 0 where
@@ -166,7 +191,8 @@ pub record CompleteExactly (n : ℕ) (words xs : List ℕ) (class : ℕ) (values
   -- the counts are true
   pub by-number : (number total : ℕ) (rest : List ℕ) → values ≡ number ∷ total ∷ rest → Counted n gs class xs number total
 
-complete-exactly : {n : ℕ} {words xs : List ℕ} {class : ℕ} {values : List ℕ} → Judges n words xs class values → CompleteExactly n words xs class values
+complete-exactly : {n : ℕ} {words xs : List ℕ} {class : ℕ} {values : List ℕ} → Judges n words xs class values
+    → CompleteExactly n words xs class values
 complete-exactly w = record {
   gs = w .gs;
   circuit = w .circuit;
@@ -183,3 +209,13 @@ pub judge-exactly-in-c : AnswersInC c-judge.Post (λ κs r. r .number)
     (λ κs r. r .caught ∷ r .total ∷ r .complete ∷ r .first .class ∷ r .first .place ∷ r .first .line ∷ r .first .value ∷ [])
     (λ κs a values e. CompleteExactly (a .0) (now (a .1 .0)) (now (a .1 .1 .0)) (a .1 .1 .1 .0) values)
 judge-exactly-in-c = record { as-said = λ call z. complete-exactly (judge-in-c .as-said call z) }
+
+-- the same by way of a coverage
+pub cover-exactly : Answers cover.Post (λ κs. toldVerdict)
+    (λ κs a values e. CompleteExactly (a .0) (now (a .1 .0)) (now (a .1 .1 .0)) (a .1 .1 .1 .0) values)
+cover-exactly = record { as-said = λ call values t. complete-exactly (cover-means .as-said call values t) }
+
+pub cover-exactly-in-c : AnswersInC c-cover.Post (λ κs r. r .number)
+    (λ κs r. r .caught ∷ r .total ∷ r .complete ∷ r .first .class ∷ r .first .place ∷ r .first .line ∷ r .first .value ∷ [])
+    (λ κs a values e. CompleteExactly (a .0) (now (a .1 .0)) (now (a .1 .1 .0)) (a .1 .1 .1 .0) values)
+cover-exactly-in-c = record { as-said = λ call z. complete-exactly (cover-in-c .as-said call z) }

@@ -1,6 +1,6 @@
--- Demand 3, over the contracts: for each valid circuit of at most 12 lines and room for the bound, the compact set catches every single stuck-at fault
--- and every multiple one of 1 to 256 entries, each pick is the input that catches most of what is left, the smallest on a tie, and there are at
--- most 2 + floor(log2 S) of them.
+-- Demand 3, over the contracts: for each valid circuit of at most 12 lines and room for the bound, the compact set catches every single stuck-at
+-- fault and every multiple one of 1 to 256 entries, each pick is the input that catches most of what is left, the smallest on a tie, and there
+-- are at most 2 + floor(log2 S) of them.
 use Prim.Native.Nat.{ℕ, suc, _+_, _*_, _^_, _≤_, _<_}
 use mathlib.Core.Path.{_≡_, sym, _∙_}
 use mathlib.Core.List.{List, [], _∷_, List·Memᴰ}
@@ -45,10 +45,11 @@ module _ (made : Ended compact-set.Post) (k : ℕ) (told : toldMade (made .resul
   is = compact-set-means .as-said made (k ∷ []) told
 
   -- S is n (d + 1), and there are at most 2 + floor(log2 S) vectors
-  pub at-most : (gs : List Gate) × Circuit n words gs × ((log : ℕ) × (2 ^ log ≤ n * suc (length gs)) × (n * suc (length gs) < 2 ^ suc log) × (k ≤ 2 + log))
+  pub at-most : (gs : List Gate) × Circuit n words gs
+      × ((log : ℕ) × (2 ^ log ≤ n * suc (length gs)) × (n * suc (length gs) < 2 ^ suc log) × (k ≤ 2 + log))
   at-most = (is .gs, is .circuit, (is .log, is .log-below, is .log-above, compact-few _ _ _ _ k is))
 
-  -- each is the smallest input that catches most of the stuck-at faults that are left by those before it, and at least half; and none is left in the end
+  -- each is the smallest input that catches most of the stuck-at faults that those before it leave, and at least half; none is left in the end
   pub by-the-rule : (gs : List Gate) × Circuit n words gs × ((faults : List Fault) × Class n gs 1 faults × Picks n gs faults written)
   by-the-rule = (is .gs, is .circuit, (is .faults, is .stuck-at, compact-picks _ _ _ _ k is))
 

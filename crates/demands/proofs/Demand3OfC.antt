@@ -45,7 +45,8 @@ module _ (made : Ended compact-set.Post) (zero : made .result .number ≡ 0) whe
   is : MakesCompact n words (now (made .inputs .1 .1 .0)) (k ∷ []) (now (made .exit .1 .1 .0))
   is = compact-set-in-c .as-said made zero
 
-  pub at-most : (gs : List Gate) × Circuit n words gs × ((log : ℕ) × (2 ^ log ≤ n * suc (length gs)) × (n * suc (length gs) < 2 ^ suc log) × (k ≤ 2 + log))
+  pub at-most : (gs : List Gate) × Circuit n words gs
+      × ((log : ℕ) × (2 ^ log ≤ n * suc (length gs)) × (n * suc (length gs) < 2 ^ suc log) × (k ≤ 2 + log))
   at-most = (is .gs, is .circuit, (is .log, is .log-below, is .log-above, compact-few _ _ _ _ k is))
 
   pub by-the-rule : (gs : List Gate) × Circuit n words gs × ((faults : List Fault) × Class n gs 1 faults × Picks n gs faults written)

@@ -48,8 +48,8 @@ pub record Drops (n : ℕ) (words : List ℕ) (x : ℕ) (fs : List Fault) (value
   pub each-is : All (Has n gs) fs
   pub left : List Fault
   pub left-are : Kept (λ f. Missed gs f x) (λ f. Caught gs f x) fs left
-  pub told : length left < 2 ^ 32 → values ≡ length left ∷ []
-  pub told-most : 2 ^ 32 ≤ length left → values ≡ (2 ^ 32 - 1) ∷ []
+  pub values-are : length left < 2 ^ 32 → values ≡ length left ∷ []
+  pub values-most : 2 ^ 32 ≤ length left → values ≡ (2 ^ 32 - 1) ∷ []
   pub front : exit ≡ left ++ replicate (length fs - length left) blank
 
 -- the same of a plain list, four words a record
@@ -88,8 +88,8 @@ drops n words x fs ok all =
       left = uncaught its x fs;
       left-are = kept-keep _ _ _ fs
           (all-map (λ f h. decides-not (λ k. caught its k x) (λ k. Caught its k x) (λ k. Missed its k x) f (decides-caught n its x f h)) fs has);
-      told = λ h. ap (λ k. k ∷ []) (in-word _ h);
-      told-most = λ h. ap (λ k. k ∷ []) (in-word-most _ h);
+      values-are = λ h. ap (λ k. k ∷ []) (in-word _ h);
+      values-most = λ h. ap (λ k. k ∷ []) (in-word-most _ h);
       front = refl;
     }
 

@@ -58,7 +58,7 @@ pub record Verdict (Yes No : Fault → Type 0) (fs : List Fault) (values : List 
   pub caught : List Fault
   pub caught-are : Kept Yes No fs caught
   pub shown : List ℕ
-  pub told : values ≡ length caught ∷ length fs ∷ shown
+  pub values-are : values ≡ length caught ∷ length fs ∷ shown
   pub shows : Shows Yes No fs shown
 
 -- ---- the pick rule

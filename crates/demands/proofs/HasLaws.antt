@@ -16,7 +16,7 @@ use Rattle.refusals.specs.Checks.{fine}
 use Rattle.refusals.specs.Places.{inWord}
 use Rattle.refusals.proofs.Tables.{fine-row, fine-parts}
 use Rattle.circuit.specs.Gates.{gatesOf, gateAt, noGate}
-use Rattle.circuit.specs.Controls.{isControl}
+use Rattle.circuit.specs.Controls.{isControl, isOther}
 use Rattle.circuit.specs.Rules.{circuitRows, vectorRows}
 use Rattle.circuit.specs.declared.Gate.{Gate}
 use Rattle.faults.specs.Rules.{isStuckAt, isGate, isMissingGate, isMissingControl, isExtraControl, isFault}
@@ -65,17 +65,17 @@ module _ (n : ℕ) (gs : List Gate) (f : Fault) where
       missing-control e (p .0) (p .1) (control-iff (gateAt gs (f .place)) (f .line) .0 (z .0)) (eqb-true _ _ (z .1))
 
   has-extra-control : f .class ≡ 4 → isExtraControl n gs f ≡ true → Has n gs f
-  unfolding isExtraControl gateAt noGate
+  unfolding isExtraControl isOther gateAt noGate
   has-extra-control e t =
       let g : Gate = gateAt gs (f .place) in
       let w = and-both (isGate gs (f .place)) _ t in
       let p = gate-in (w .0) in
       let l = and-both (ltb (f .line) n) _ (w .1) in
-      let c = and-both (not (isControl g (f .line))) _ (l .1) in
-      let z = and-both (not (eqb (f .line) (g .target))) (eqb (f .value) 0) (c .1) in
+      let o = and-both (isOther g (f .line)) (eqb (f .value) 0) (l .1) in
+      let c = and-both (not (isControl g (f .line))) (not (eqb (f .line) (g .target))) (o .0) in
       extra-control e (p .0) (p .1) (ltb-true _ _ (l .0))
-      (λ o. true≢false (sym (control-iff g (f .line) .1 o) ∙ not-true _ (c .0)))
-      (eqb-false (f .line) (g .target) (not-true _ (z .0))) (eqb-true _ _ (z .1))
+      (λ on. true≢false (sym (control-iff g (f .line) .1 on) ∙ not-true _ (c .0)))
+      (eqb-false (f .line) (g .target) (not-true _ (c .1))) (eqb-true _ _ (o .1))
 
   pub has-of : isFault n gs f ≡ true → Has n gs f
   has-of is = by-equal (f .class) 1
@@ -87,7 +87,7 @@ module _ (n : ℕ) (gs : List Gate) (f : Fault) where
       (λ c. let e = class-last n gs f is a b c in has-extra-control e (sym (class-four n gs f e) ∙ is))))
 
   pub of-has : Has n gs f → isFault n gs f ≡ true
-  unfolding isStuckAt isMissingGate isMissingControl isExtraControl gateAt noGate
+  unfolding isStuckAt isMissingGate isMissingControl isExtraControl isOther gateAt noGate
   of-has (stuck-at e s v) =
       let k : StuckOk n (length gs) f = record { class-is = e; place-in = s .0; line-in = s .1; value-in = v } in
       class-one n gs f e ∙ and-true (le-leb (f .place) (length gs) (s .0))
@@ -99,8 +99,8 @@ module _ (n : ℕ) (gs : List Gate) (f : Fault) where
   of-has (extra-control e lo hi l c t v) =
       let g : Gate = gateAt gs (f .place) in
       class-four n gs f e ∙ and-true (in-gate lo hi) (and-true (lt-ltb (f .line) n l)
-      (and-true (ap not (by-test (isControl g (f .line)) (λ o. absurd (c (control-iff g (f .line) .0 o))) (λ o. o)))
-      (and-true (ap not (ne-eqb (f .line) (g .target) t)) (eq-eqb (f .value) 0 v))))
+      (and-true (and-true (ap not (by-test (isControl g (f .line)) (λ o. absurd (c (control-iff g (f .line) .0 o))) (λ o. o)))
+      (ap not (ne-eqb (f .line) (g .target) t))) (eq-eqb (f .value) 0 v)))
 
 -- what is known of it by its class
 module _ (n : ℕ) (gs : List Gate) (f : Fault) where

@@ -9,11 +9,11 @@ use native.Mathlib.Omega.{arith}
 use lib.ListN.{length, take}
 use Rattle.job.specs.Image.{image, linesIn, classesIn, gatesIn, vectorsIn, gateWords, vectorWords, gateCount}
 use Rattle.job.proofs.NumberLaws.{Bytes}
-use Rattle.job.proofs.FitLaws.{gates-whole}
-use Rattle.job.proofs.RuleLaws.{write-ok}
+use Rattle.circuit.proofs.WordLaws.{words-whole}
+use Rattle.job.proofs.WriteLaws.{write-ok}
 use Rattle.job.proofs.RoundTrip.{read-written, read-written-fine, written-read}
 use Rattle.job.proofs.RoundTrip as jobs
-use Rattle.job.proofs.WriteLaws.{written-read-fine}
+use Rattle.job.proofs.ReadBackLaws.{written-read-fine}
 use Rattle.demands.proofs.ImagesPromised.{Writer, Writes, writes, wrote, Reader, Reads, reads, has-read}
 
 -- it answers with this job, and has put its gates and vectors in front
@@ -29,6 +29,7 @@ pub read-what-was-written : (W : Writer) (R : Reader) (w : W .Call) (count : ℕ
     → (r : R .Call) → R .bytes r ≡ take count (W .left w)
     → length (W .gates w) ≤ length (R .gateRoom r) → length (W .vectors w) ≤ length (R .vectorRoom r)
     → ReadAs R r (W .lines w) (W .classes w) (W .gates w) (W .vectors w)
+unfolding gateCount
 read-what-was-written W R w count done r same g v =
     let n = W .lines w in
     let k = W .classes w in
@@ -36,7 +37,7 @@ read-what-was-written W R w count done r same g v =
     let xs = W .vectors w in
     let put = wrote W w count done in
     let is : R .bytes r ≡ image n k words xs = same ∙ put .front-is in
-    let whole = gates-whole n words (write-ok n k words xs (length (W .room w)) (put .passed) .job .gates-good) in
+    let whole = words-whole n words (write-ok n k words xs (length (W .room w)) (put .passed) .job .gates-good) in
     let holds = read-written n k words xs (length (W .room w)) (put .passed) in
     let passes = read-written-fine n k words xs (length (W .room w)) (length (R .gateRoom r)) (length (R .vectorRoom r)) (put .passed)
     (omega arith) v in

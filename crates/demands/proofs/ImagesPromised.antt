@@ -6,6 +6,7 @@ use mathlib.Core.List.{List, [], _∷_, _++_}
 use native.Mathlib.Omega.{arith}
 use lib.ListN.{length, take, drop}
 use lib.Seq.{take-at}
+use Rattle.basics.specs.Lists.{onto}
 use Rattle.refusals.specs.Tables.{Row, Told, firstOf, after}
 use Rattle.refusals.specs.Tables.Row.{refuse_at_when_}
 use Rattle.refusals.specs.Tables.Told.{answered}
@@ -122,9 +123,9 @@ pub record Reader : Type 1 where
       → (said c ≡ tell (firstOf (readRows (bytes c) (length (gateRoom c)) (length (vectorRoom c)))
       (answered (linesIn (bytes c) ∷ classesIn (bytes c) ∷ gatesIn (bytes c) ∷ vectorsIn (bytes c) ∷ []))))
       × ((gates c ≡ after (readRows (bytes c) (length (gateRoom c)) (length (vectorRoom c)))
-      (gateWords (bytes c) ++ drop (3 * gatesIn (bytes c)) (gateRoom c)) (gateRoom c))
+      (onto (gateWords (bytes c)) (gateRoom c)) (gateRoom c))
       × (vectors c ≡ after (readRows (bytes c) (length (gateRoom c)) (length (vectorRoom c)))
-      (vectorWords (bytes c) ++ drop (vectorsIn (bytes c)) (vectorRoom c)) (vectorRoom c)))
+      (onto (vectorWords (bytes c)) (vectorRoom c)) (vectorRoom c)))
 
 -- a call answers with these lines, classes, number of gates and number of vectors
 abbrev pub Reads : (R : Reader) → R .Call → ℕ → ℕ → ℕ → ℕ → Type 0

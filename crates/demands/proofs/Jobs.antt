@@ -6,7 +6,7 @@ use native.Mathlib.Omega.{arith}
 use lib.ListN.{length, drop}
 use borrow.Author.Tests.{eq-eqb}
 use denote.Ref.{now}
-use Rattle.basics.specs.Lists.{each, All}
+use Rattle.basics.specs.Lists.{each, All, onto}
 use Rattle.refusals.specs.Tables.{Row, firstOf, after}
 use Rattle.refusals.specs.Checks.{fine}
 use Rattle.refusals.proofs.Tables.{after-fine}
@@ -14,12 +14,13 @@ use Rattle.circuit.specs.Gates.{gatesOf}
 use Rattle.circuit.specs.Rules.{firstBadGate, firstBadVector, circuitSetRows, setRows}
 use Rattle.circuit.specs.declared.Gate.{Gate}
 use Rattle.circuit.proofs.GateLaws.{gates-count}
-use Rattle.circuit.proofs.RuleLaws.{lines-right, sizes-right, VectorsOk, vectors-ok}
+use Rattle.circuit.proofs.RuleLaws.{lines-good, counts-good, VectorsOk, vectors-ok}
 use Rattle.job.specs.Bytes.{bytesOf}
-use Rattle.job.specs.Image.{header, fieldBytes, gateCount, image, linesIn, classesIn, gatesIn, vectorsIn, gateWords, vectorWords}
+use Rattle.job.specs.Image.{header, rowBytes, gateCount, image, linesIn, classesIn, gatesIn, vectorsIn, gateWords, vectorWords}
 use Rattle.job.specs.Rules.{readRows, writeRows}
 use Rattle.job.specs.Answers.{toldRead, toldWritten}
-use Rattle.job.proofs.RuleLaws.{read-ok, write-ok}
+use Rattle.job.proofs.ReadLaws.{read-ok}
+use Rattle.job.proofs.WriteLaws.{write-ok}
 use Rattle.job.proofs.ByteLaws.{length-words}
 use Rattle.job.proofs.RoundTrip.{written-read}
 use Rattle.job.proofs.read_job.Reads as read-job
@@ -66,7 +67,7 @@ pub record Job (n classes : ℕ) (words xs : List ℕ) (gs : List Gate) : Type 0
 pub record Writes (n classes : ℕ) (words xs room values exit : List ℕ) : Type 0 where
   pub gs : List Gate
   pub job : Job n classes words xs gs
-  pub told : values ≡ length (imageOf n classes (length gs) words xs) ∷ []
+  pub values-are : values ≡ length (imageOf n classes (length gs) words xs) ∷ []
   pub front : exit ≡ imageOf n classes (length gs) words xs ++ drop (length (imageOf n classes (length gs) words xs)) room
 
 -- the bytes are the image of a job; its lines, classes and numbers of gates and vectors are told, and its gates and vectors stand at the front of
@@ -79,7 +80,7 @@ pub record ReadsOut (bytes gates vectors values gates-exit vectors-exit : List �
   pub gs : List Gate
   pub job : Job n classes words xs gs
   pub is-image : All (λ b. b < 256) bytes → bytes ≡ imageOf n classes (length gs) words xs
-  pub told : values ≡ n ∷ classes ∷ length gs ∷ length xs ∷ []
+  pub values-are : values ≡ n ∷ classes ∷ length gs ∷ length xs ∷ []
   pub gates-front : gates-exit ≡ words ++ drop (length words) gates
   pub vectors-front : vectors-exit ≡ xs ++ drop (length xs) vectors
 
@@ -91,7 +92,7 @@ fours-are [] = refl
 fours-are (x ∷ xs) = ap (λ more. four x ++ more) (fours-are xs)
 
 image-is : (n classes : ℕ) (words xs : List ℕ) → image n classes words xs ≡ imageOf n classes (length (gatesOf words)) words xs
-unfolding image header fieldBytes each bytesOf gateCount
+unfolding image header rowBytes each bytesOf gateCount
 image-is n classes words xs =
     ap₂ (λ g v. head n classes (length words / 3) (length xs) ++ (g ++ v)) (fours-are words) (fours-are xs)
     ∙ ap (λ d. imageOf n classes d words xs) (sym (gates-count words))
@@ -101,8 +102,9 @@ set-fine : (n : ℕ) (words xs : List ℕ) → 1 ≤ n → n ≤ 32 → length w
     → firstBadVector n xs ≡ 0 → fine ≡ firstOf (setRows n words xs) fine
 unfolding setRows circuitSetRows
 set-fine n words xs lo hi gates vectors g v = rw (
-  lines-right n (λ e. omega arith) hi,
-  sizes-right words (length xs) gates vectors,
+  lines-good n lo hi,
+  gates-count words,
+  counts-good (length words / 3) (length xs) gates vectors,
   eq-eqb (firstBadGate n words) 0 g,
   eq-eqb (firstBadVector n xs) 0 v,
 )
@@ -129,7 +131,7 @@ writes n classes words xs room exit unbroken made =
           (vectors-ok n words xs
           (set-fine n words xs (ok .some-lines) (ok .lines-fit) (ok .gates-fit) (ok .vectors-fit) (ok .gates-good) (ok .vectors-good)))
           (ok .some-classes) (ok .classes-fit);
-      told = ap (λ l. length l ∷ []) same;
+      values-are = ap (λ l. length l ∷ []) same;
       front = made ∙ sym (after-fine (writeRows n classes words xs (length room)) _ _ unbroken) ∙ ap (λ l. l ++ drop (length l) room) same;
     }
 
@@ -165,8 +167,8 @@ module _ (bytes : List ℕ) where
         ∙ image-is (linesIn bytes) (classesIn bytes) (gateWords bytes) (vectorWords bytes)
 
   reads-out : (gates vectors gates-exit vectors-exit : List ℕ) → fine ≡ firstOf (readRows bytes (length gates) (length vectors)) fine
-      → gates-exit ≡ after (readRows bytes (length gates) (length vectors)) (gateWords bytes ++ drop (3 * gatesIn bytes) gates) gates
-      → vectors-exit ≡ after (readRows bytes (length gates) (length vectors)) (vectorWords bytes ++ drop (vectorsIn bytes) vectors) vectors
+      → gates-exit ≡ after (readRows bytes (length gates) (length vectors)) (onto (gateWords bytes) gates) gates
+      → vectors-exit ≡ after (readRows bytes (length gates) (length vectors)) (onto (vectorWords bytes) vectors) vectors
       → ReadsOut bytes gates vectors (linesIn bytes ∷ classesIn bytes ∷ gatesIn bytes ∷ vectorsIn bytes ∷ []) gates-exit vectors-exit
   reads-out gates vectors gates-exit vectors-exit unbroken made-gates made-vectors =
       let rows : List Row = readRows bytes (length gates) (length vectors) in
@@ -178,9 +180,9 @@ module _ (bytes : List ℕ) where
         gs = gatesOf (gateWords bytes);
         job = held-job (length gates) (length vectors) unbroken;
         is-image = held-image (length gates) (length vectors) unbroken;
-        told = ap₂ (λ d m. linesIn bytes ∷ classesIn bytes ∷ d ∷ m ∷ []) gate-number (sym vector-words);
-        gates-front = made-gates ∙ sym (after-fine rows _ _ unbroken) ∙ ap (λ k. gateWords bytes ++ drop k gates) (sym gate-words);
-        vectors-front = made-vectors ∙ sym (after-fine rows _ _ unbroken) ∙ ap (λ k. vectorWords bytes ++ drop k vectors) (sym vector-words);
+        values-are = ap₂ (λ d m. linesIn bytes ∷ classesIn bytes ∷ d ∷ m ∷ []) gate-number (sym vector-words);
+        gates-front = made-gates ∙ sym (after-fine rows _ _ unbroken);
+        vectors-front = made-vectors ∙ sym (after-fine rows _ _ unbroken);
       }
 
 -- ---- the calls

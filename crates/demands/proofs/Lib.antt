@@ -4,6 +4,7 @@ pub mod FirstBroken
 pub mod Refusing
 pub mod Answering
 pub mod InC
+pub mod Telling
 pub mod Demand1
 pub mod Demand1OfC
 pub mod Machine

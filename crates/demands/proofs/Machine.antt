@@ -1,5 +1,5 @@
 -- The circuit and its faults in the paper's words, spelled from the bits of a state and from lists: what the contracts are held against.
--- Nothing here names what a contract cites for it.
+-- Of what they cite it names `bit` alone, which `bit-is` of `Demand2` spells.
 use Prim.Native.Nat.{ℕ, suc, _-_, _^_, _≤_, _<_}
 use mathlib.Core.Path.{_≡_}
 use mathlib.Core.Logic.{_↔_, _≢_}

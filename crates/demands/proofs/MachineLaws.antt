@@ -102,7 +102,8 @@ circuit-is n words ok = record {
 pub circuit-ok : (n : ℕ) (words : List ℕ) (gs : List Gate) → Circuit n words gs → AllOk n gs
 circuit-ok n words gs w = gates-ok gs (w .controls-in) (w .target-in) (w .apart)
   where
-    gates-ok : (hs : List Gate) → All (λ g. g .controls < 2 ^ n) hs → All (λ g. g .target < n) hs → All (λ g. Control g (g .target) → ⊥) hs → AllOk n hs
+    gates-ok : (hs : List Gate) → All (λ g. g .controls < 2 ^ n) hs → All (λ g. g .target < n) hs → All (λ g. Control g (g .target) → ⊥) hs
+        → AllOk n hs
     gates-ok [] c t a = tt
     gates-ok (g ∷ hs) c t a = (
       record {

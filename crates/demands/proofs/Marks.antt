@@ -1,13 +1,13 @@
 -- The marks of a coverage: what it means that a fault is marked, which marks a vector adds, and what the count of a class tells.
-use Prim.Native.Nat.{ℕ, zero, suc, _-_, _<_}
+use Prim.Native.Nat.{ℕ, zero, suc, _-_, _≤_}
 use mathlib.Core.Path.{_≡_, refl, sym, ap, _∙_, subst}
 use mathlib.Core.Logic.{_↔_, _⊎_, inl, inr}
-use mathlib.Core.Bool.{true, _||_, true≢false}
+use mathlib.Core.Bool.{true, _||_, _&&_, true≢false}
 use mathlib.Core.List.{List, [], _∷_, List·Memᴰ·head, List·Memᴰ·eq-of-singleton}
 use native.Mathlib.Omega.{arith}
 use lib.ListN.{length, getD}
 use lib.Dec.{eqb}
-use borrow.Author.Tests.{eq-eqb, ne-eqb, eqb-true}
+use borrow.Author.Tests.{eq-eqb, ne-eqb, eqb-true, le-leb}
 use Rattle.basics.proofs.Tests.{by-test, by-equal, or-left, or-right}
 use Rattle.basics.proofs.All.{all-map}
 use Rattle.words.specs.Word.{bit}
@@ -16,15 +16,14 @@ use Rattle.circuit.specs.Gates.{gatesOf}
 use Rattle.circuit.specs.Sound.{Sound}
 use Rattle.circuit.specs.declared.Gate.{Gate}
 use Rattle.faults.specs.declared.Fault.{Fault}
-use Rattle.faults.proofs.ClassLaws.{names-line}
 use Rattle.faults.specs.Classes.{classFaults}
 use Rattle.judge.specs.Judging.{caughtBySome, verdict}
 use Rattle.marking.specs.Marks.{marked}
 use Rattle.judge.specs.Coverages.{withVector, withAll, isMarked}
 use Rattle.judge.specs.declared.coverage.Coverage.{Coverage}
 use Rattle.marking.proofs.MarkedLaws.{marked-length}
-use Rattle.judge.proofs.MeanLaws.{Sized, HasMark, mark-mean}
-use Rattle.judge.proofs.MeanLaws.HasMark.{at-level, at-gate}
+use Rattle.judge.proofs.CoverLaws.{Sized}
+use Rattle.judge.proofs.MeanLaws.{mark-mean}
 use Rattle.demands.proofs.Machine.{Circuit, Caught, Has}
 use Rattle.demands.proofs.Machine.Has.{stuck-at as has-stuck, missing-gate as has-gate, missing-control as has-control}
 use Rattle.demands.proofs.Machine.Has.{extra-control as has-extra}
@@ -36,13 +35,13 @@ use Rattle.demands.proofs.VerdictLaws.{Decides, decides-some, toldOf, v
 
 -- ---- marks
 
--- the mark of a fault: a line of the word of its class, value and place
+-- the mark of a fault: a line of the word of its class, value and place; gates are counted from 1, and their faults have the value 0
 pub data Marked (c : Coverage) (f : Fault) : Type 0 where
   stuck-at-0 : f .class ≡ 1 → f .value ≡ 0 → bit (getD (c .«stuck_at_0») (f .place) 0) (f .line) ≡ 1 → Marked c f
   stuck-at-1 : f .class ≡ 1 → f .value ≡ 1 → bit (getD (c .«stuck_at_1») (f .place) 0) (f .line) ≡ 1 → Marked c f
-  missing-gate : f .class ≡ 2 → bit (getD (c .«missing_gates») (f .place - 1) 0) (f .line) ≡ 1 → Marked c f
-  missing-control : f .class ≡ 3 → bit (getD (c .«missing_controls») (f .place - 1) 0) (f .line) ≡ 1 → Marked c f
-  extra-control : f .class ≡ 4 → bit (getD (c .«extra_controls») (f .place - 1) 0) (f .line) ≡ 1 → Marked c f
+  missing-gate : f .class ≡ 2 → 1 ≤ f .place → f .value ≡ 0 → bit (getD (c .«missing_gates») (f .place - 1) 0) (f .line) ≡ 1 → Marked c f
+  missing-control : f .class ≡ 3 → 1 ≤ f .place → f .value ≡ 0 → bit (getD (c .«missing_controls») (f .place - 1) 0) (f .line) ≡ 1 → Marked c f
+  extra-control : f .class ≡ 4 → 1 ≤ f .place → f .value ≡ 0 → bit (getD (c .«extra_controls») (f .place - 1) 0) (f .line) ≡ 1 → Marked c f
 
 abbrev pub Unmarked : Coverage → Fault → Type 0
 Unmarked c f = Marked c f → ⊥
@@ -82,35 +81,42 @@ module _ (c : Coverage) (f : Fault) where
 
   is-1 : f .class ≡ 1 → f .value ≡ 1 → isMarked c f ≡ eqb (bit (getD (c .«stuck_at_1») (f .place) 0) (f .line)) 1
   unfolding isMarked
-  is-1 e v = rw (eq-eqb (f .class) 1 e, ne-eqb (f .value) 0 (λ q. omega arith))
+  is-1 e v = rw (eq-eqb (f .class) 1 e, ne-eqb (f .value) 0 (λ q. omega arith), eq-eqb (f .value) 1 v)
 
-  is-2 : f .class ≡ 2 → isMarked c f ≡ eqb (bit (getD (c .«missing_gates») (f .place - 1) 0) (f .line)) 1
+  is-2 : f .class ≡ 2 → 1 ≤ f .place → f .value ≡ 0 → isMarked c f ≡ eqb (bit (getD (c .«missing_gates») (f .place - 1) 0) (f .line)) 1
   unfolding isMarked
-  is-2 e = rw (ne-eqb (f .class) 1 (λ q. omega arith), eq-eqb (f .class) 2 e)
+  is-2 e lo v = rw (le-leb 1 (f .place) lo, eq-eqb (f .value) 0 v, ne-eqb (f .class) 1 (λ q. omega arith), eq-eqb (f .class) 2 e)
 
-  is-3 : f .class ≡ 3 → isMarked c f ≡ eqb (bit (getD (c .«missing_controls») (f .place - 1) 0) (f .line)) 1
+  is-3 : f .class ≡ 3 → 1 ≤ f .place → f .value ≡ 0 → isMarked c f ≡ eqb (bit (getD (c .«missing_controls») (f .place - 1) 0) (f .line)) 1
   unfolding isMarked
-  is-3 e = rw (ne-eqb (f .class) 1 (λ q. omega arith), ne-eqb (f .class) 2 (λ q. omega arith), eq-eqb (f .class) 3 e)
+  is-3 e lo v = rw (le-leb 1 (f .place) lo, eq-eqb (f .value) 0 v, ne-eqb (f .class) 1 (λ q. omega arith), ne-eqb (f .class) 2 (λ q. omega arith), eq-eqb (f .class) 3 e)
 
-  is-4 : f .class ≡ 4 → isMarked c f ≡ eqb (bit (getD (c .«extra_controls») (f .place - 1) 0) (f .line)) 1
+  is-4 : f .class ≡ 4 → 1 ≤ f .place → f .value ≡ 0 → isMarked c f ≡ eqb (bit (getD (c .«extra_controls») (f .place - 1) 0) (f .line)) 1
   unfolding isMarked
-  is-4 e = rw (ne-eqb (f .class) 1 (λ q. omega arith), ne-eqb (f .class) 2 (λ q. omega arith), ne-eqb (f .class) 3 (λ q. omega arith))
+  is-4 e lo v = rw (
+    le-leb 1 (f .place) lo,
+    eq-eqb (f .value) 0 v,
+    ne-eqb (f .class) 1 (λ q. omega arith),
+    ne-eqb (f .class) 2 (λ q. omega arith),
+    ne-eqb (f .class) 3 (λ q. omega arith),
+    eq-eqb (f .class) 4 e,
+  )
 
   pub marked-true : Marked c f → isMarked c f ≡ true
   marked-true (stuck-at-0 e v m) = is-0 e v ∙ eq-eqb _ 1 m
   marked-true (stuck-at-1 e v m) = is-1 e v ∙ eq-eqb _ 1 m
-  marked-true (missing-gate e m) = is-2 e ∙ eq-eqb _ 1 m
-  marked-true (missing-control e m) = is-3 e ∙ eq-eqb _ 1 m
-  marked-true (extra-control e m) = is-4 e ∙ eq-eqb _ 1 m
+  marked-true (missing-gate e lo v m) = is-2 e lo v ∙ eq-eqb _ 1 m
+  marked-true (missing-control e lo v m) = is-3 e lo v ∙ eq-eqb _ 1 m
+  marked-true (extra-control e lo v m) = is-4 e lo v ∙ eq-eqb _ 1 m
 
   module _ (n : ℕ) (gs : List Gate) where
     true-marked : Has n gs f → isMarked c f ≡ true → Marked c f
     true-marked (has-stuck e s v) t = by-equal (f .value) 0
         (λ z. stuck-at-0 e z (eqb-true _ 1 (sym (is-0 e z) ∙ t)))
         (λ d. let o : f .value ≡ 1 = omega arith in stuck-at-1 e o (eqb-true _ 1 (sym (is-1 e o) ∙ t)))
-    true-marked (has-gate e lo hi l v) t = missing-gate e (eqb-true _ 1 (sym (is-2 e) ∙ t))
-    true-marked (has-control e lo hi o v) t = missing-control e (eqb-true _ 1 (sym (is-3 e) ∙ t))
-    true-marked (has-extra e lo hi l o g v) t = extra-control e (eqb-true _ 1 (sym (is-4 e) ∙ t))
+    true-marked (has-gate e lo hi l v) t = missing-gate e lo v (eqb-true _ 1 (sym (is-2 e lo v) ∙ t))
+    true-marked (has-control e lo hi o v) t = missing-control e lo v (eqb-true _ 1 (sym (is-3 e lo v) ∙ t))
+    true-marked (has-extra e lo hi l o g v) t = extra-control e lo v (eqb-true _ 1 (sym (is-4 e lo v) ∙ t))
 
     decides-marked : Has n gs f → Decides (isMarked c) (Marked c) (Unmarked c) f
     decides-marked h = record {
@@ -140,9 +146,9 @@ module _ (n : ℕ) (words : List ℕ) (x : ℕ) (c : Coverage) (ok : Sound n wor
   unfolding withVector
   all-kept f (stuck-at-0 e v m) = stuck-at-0 e v (stays-marked _ _ (f .place) (f .line) m)
   all-kept f (stuck-at-1 e v m) = stuck-at-1 e v (stays-marked _ _ (f .place) (f .line) m)
-  all-kept f (missing-gate e m) = missing-gate e (stays-marked _ _ (f .place - 1) (f .line) m)
-  all-kept f (missing-control e m) = missing-control e (stays-marked _ _ (f .place - 1) (f .line) m)
-  all-kept f (extra-control e m) = extra-control e (stays-marked _ _ (f .place - 1) (f .line) m)
+  all-kept f (missing-gate e lo v m) = missing-gate e lo v (stays-marked _ _ (f .place - 1) (f .line) m)
+  all-kept f (missing-control e lo v m) = missing-control e lo v (stays-marked _ _ (f .place - 1) (f .line) m)
+  all-kept f (extra-control e lo v m) = extra-control e lo v (stays-marked _ _ (f .place - 1) (f .line) m)
 
   still-full : Full c → Full new
   unfolding withVector
@@ -154,18 +160,6 @@ module _ (n : ℕ) (words : List ℕ) (x : ℕ) (c : Coverage) (ok : Sound n wor
     extras = marked-length (c .«extra_controls») _ ∙ w .extras;
   }
 
-  has-mark : (f : Fault) → Has n its f → HasMark n its f
-  has-mark f h = by-place h
-    where
-      line : f .line < n
-      line = names-line n words f ok (of-has n its f h)
-
-      by-place : Has n its f → HasMark n its f
-      by-place (has-stuck e s v) = at-level e v (s .0) line
-      by-place (has-gate e lo hi l v) = at-gate (omega arith) (omega arith) v lo hi line
-      by-place (has-control e lo hi o v) = at-gate (omega arith) (omega arith) v lo hi line
-      by-place (has-extra e lo hi l o g v) = at-gate (omega arith) (omega arith) v lo hi line
-
   caught-one : (f : Fault) → CaughtBySome its (x ∷ []) f → Caught its f x
   caught-one f w = subst (Caught its f) (List·Memᴰ·eq-of-singleton (w .1)) (w .2)
 
@@ -174,7 +168,7 @@ module _ (n : ℕ) (words : List ℕ) (x : ℕ) (c : Coverage) (ok : Sound n wor
   newly w f h =
       let sized : Sized c = record { stuck-0 = w .levels-0; stuck-1 = w .levels-1; gates = w .gates; controls = w .controls; extras = w .extras } in
       let mean : isMarked new f ≡ (isMarked c f || caughtBySome its (x ∷ []) f) =
-      mark-mean n its (ok .gates-fit) (x ∷ []) c sized f (has-mark f h) in
+      mark-mean n words ok (x ∷ []) c sized f ∙ ap (λ is. isMarked c f || (is && caughtBySome its (x ∷ []) f)) (of-has n its f h) in
       let some = decides-some n its (x ∷ []) f h in (
         λ m. by-test (isMarked c f)
             (λ t. inl (true-marked c f n its h t))

@@ -15,8 +15,8 @@ use Rattle.faults.specs.Entries.{StuckOk}
 use Rattle.faults.specs.declared.Fault.{Fault}
 use Rattle.judge.specs.Judging.{uncaughtOf, caughtBySome}
 use Rattle.testsets.specs.Sets.{score, best, picks}
-use Rattle.testsets.proofs.SetLaws.{all-left}
-use Rattle.testsets.proofs.Halving.{best-lt, best-above, best-half, half-left}
+use Rattle.testsets.proofs.SetLaws.{all-uncaught}
+use Rattle.testsets.proofs.Halving.{best-lt, best-above, best-half, half-uncaught}
 use Rattle.demands.proofs.Machine.{Caught, Missed, Has}
 use Rattle.demands.proofs.HasLaws.{has-line}
 use Rattle.demands.proofs.FaultLists.{Kept, Best, Picks}
@@ -70,6 +70,6 @@ module _ (n : ℕ) (gs : List Gate) (ok : AllOk n gs) where
         (
           rest,
           left-kept v (f ∷ fs) w,
-          picks-are k rest (all-left Stuck gs (v ∷ []) (f ∷ fs) w) (omega (arith, half-left n gs ok (f ∷ fs) (stuck-lines (f ∷ fs) w))),
+          picks-are k rest (all-uncaught Stuck gs (v ∷ []) (f ∷ fs) w) (omega (arith, half-uncaught n gs ok (f ∷ fs) (stuck-lines (f ∷ fs) w))),
         ),
       )

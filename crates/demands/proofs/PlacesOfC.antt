@@ -29,7 +29,7 @@ use Rattle.demands.proofs.PlacesTold.{before, Tells, tells}
 use Rattle.demands.proofs.PlacesLaws.{Words}
 use Rattle.demands.proofs.FirstBroken.{Unbroken}
 use Rattle.demands.proofs.Demand1OfC as calls
-use Rattle.demands.proofs.Demand1OfC.{RefusesInC, tells-refusal}
+use Rattle.demands.proofs.InC.{RefusesInC, tells-refusal}
 
 -- what is told of a struct is said of its number and its place
 module _ {L : Type 0} {Inputs Result Exit : L → Type 0} {Post : (κs : L) → Inputs κs → Result κs → Exit κs → Type 0}

@@ -26,8 +26,9 @@ use Rattle.marking.specs.Firsts.{firstTold}
 use Rattle.job.specs.Image.{linesIn, classesIn, gateWords, vectorWords}
 use Rattle.job.specs.Rules.{readRows}
 use Rattle.text.specs.Decimal.{digit, decimalIn, decimal}
-use Rattle.report_text.specs.Lines.{field, line}
-use Rattle.report_text.specs.Report.{letterOf, shown, firstText, classText, isWanted, wanted, jobText, refusedText, textOf, reportText}
+use Rattle.report_text.specs.Lines.{spaced, line}
+use Rattle.report_text.specs.Report.{letterOf, shown, firstText, classText, jobText, refusedText, textOf, reportText}
+use Rattle.job.specs.Wanted.{isWanted, wanted}
 use Rattle.report_text.specs.Rules.{reportRows}
 use Rattle.report_text.specs.Answers.{toldReported}
 use Rattle.report_text.proofs.report.Reads as report
@@ -56,21 +57,21 @@ in-places (suc places) x h = by-test (ltb x 10)
     (more (ltb-false x 10 t) (in-places places (x / 10) (omega (arith, pow-suc 10 (suc places))))))
 
 -- a field is one blank and such a number
-pub field-is : (x : ℕ) → x < 10 ^ 10 → (digits : List ℕ) × (field x ≡ 32 ∷ digits) × Decimal x digits
-unfolding field decimal
-field-is x h = (decimal x, refl, in-places 9 x h)
+pub spaced-is : (x : ℕ) → x < 10 ^ 10 → (digits : List ℕ) × (spaced x ≡ 32 ∷ digits) × Decimal x digits
+unfolding spaced decimal
+spaced-is x h = (decimal x, refl, in-places 9 x h)
 
 abbrev pub fields : List ℕ → List ℕ
 fields [] = []
-fields (x ∷ xs) = field x ++ fields xs
+fields (x ∷ xs) = spaced x ++ fields xs
 
 -- a line: a letter, what follows it, and LF
 abbrev pub textLine : ℕ → List ℕ → List ℕ
 textLine letter rest = letter ∷ (rest ++ (10 ∷ []))
 
--- the letters S, M, C and X
+-- the letters S, M, C and X; there is no other class
 abbrev pub letter : ℕ → ℕ
-letter class = choice (eqb class 1) 83 (choice (eqb class 2) 77 (choice (eqb class 3) 67 88))
+letter class = choice (eqb class 1) 83 (choice (eqb class 2) 77 (choice (eqb class 3) 67 (choice (eqb class 4) 88 63)))
 
 -- ---- what the report says
 
@@ -79,7 +80,8 @@ pub data Last (class : ℕ) (shown text : List ℕ) : Type 0 where
   ok : shown ≡ 1 ∷ 0 ∷ 0 ∷ 0 ∷ 0 ∷ [] → text ≡ 32 ∷ 111 ∷ 107 ∷ [] → Last class shown text
   stuck : class ≡ 1 → (k p l v : ℕ) → shown ≡ 0 ∷ k ∷ p ∷ l ∷ v ∷ [] → text ≡ fields (p ∷ l ∷ v ∷ []) → Last class shown text
   gate : class ≡ 2 → (k p l v : ℕ) → shown ≡ 0 ∷ k ∷ p ∷ l ∷ v ∷ [] → text ≡ fields (p ∷ []) → Last class shown text
-  control : 3 ≤ class → (k p l v : ℕ) → shown ≡ 0 ∷ k ∷ p ∷ l ∷ v ∷ [] → text ≡ fields (p ∷ l ∷ []) → Last class shown text
+  control : class ≡ 3 → (k p l v : ℕ) → shown ≡ 0 ∷ k ∷ p ∷ l ∷ v ∷ [] → text ≡ fields (p ∷ l ∷ []) → Last class shown text
+  extra : class ≡ 4 → (k p l v : ℕ) → shown ≡ 0 ∷ k ∷ p ∷ l ∷ v ∷ [] → text ≡ fields (p ∷ l ∷ []) → Last class shown text
 
 -- the line of a class: its letter, the number caught, the number in the class, as the judge of the set finds them
 pub record ClassLine (n : ℕ) (words xs : List ℕ) (class : ℕ) (text : List ℕ) : Type 0 where
@@ -101,37 +103,42 @@ pub data Reports (bytes text : List ℕ) : Type 0 where
   refuses : (k p : ℕ) → FirstBroken (readRows bytes 3072 2048) k p → text ≡ textLine 69 (fields (k ∷ p ∷ [])) → Reports bytes text
   verdicts : (n classes : ℕ) (words xs : List ℕ) (gs : List Gate) → Job n classes words xs gs
       → (All (λ b. b < 256) bytes → bytes ≡ imageOf n classes (length gs) words xs)
-      → (s m c x : List ℕ) → Wanted n words xs classes 1 s → Wanted n words xs classes 2 m → Wanted n words xs classes 3 c → Wanted n words xs classes 4 x
+      → (s m c x : List ℕ) → Wanted n words xs classes 1 s → Wanted n words xs classes 2 m → Wanted n words xs classes 3 c
+      → Wanted n words xs classes 4 x
       → text ≡ textLine 74 (fields (n ∷ length gs ∷ length xs ∷ [])) ++ (s ++ (m ++ (c ++ x))) → Reports bytes text
 
 -- the text stands at the front of the bytes, and its length is told
 pub record WritesReport (bytes room values exit : List ℕ) : Type 0 where
   pub text : List ℕ
   pub reports : Reports bytes text
-  pub told : values ≡ length text ∷ []
+  pub values-are : values ≡ length text ∷ []
   pub front : exit ≡ text ++ drop (length text) room
 
 -- ---- the promised text is so
 
-fields-are : (xs : List ℕ) → each field xs ≡ fields xs
+fields-are : (xs : List ℕ) → each spaced xs ≡ fields xs
 unfolding each
 fields-are [] = refl
-fields-are (x ∷ xs) = ap (λ more. field x ++ more) (fields-are xs)
+fields-are (x ∷ xs) = ap (λ more. spaced x ++ more) (fields-are xs)
 
-last-of : (class : ℕ) → 1 ≤ class → (fs : List Fault) → Last class (firstTold fs) (firstText class fs)
+last-of : (class : ℕ) → 1 ≤ class → class ≤ 4 → (fs : List Fault) → Last class (firstTold fs) (firstText class fs)
 unfolding firstText shown
-last-of class lo [] = ok refl refl
-last-of class lo (f ∷ rest) = by-equal class 1
-    (λ e. stuck e _ _ _ _ refl (ap (each field) (choice-true (eq-eqb class 1 e) _ _) ∙ fields-are _))
+last-of class lo hi [] = ok refl refl
+last-of class lo hi (f ∷ rest) = by-equal class 1
+    (λ e. stuck e _ _ _ _ refl (ap (each spaced) (choice-true (eq-eqb class 1 e) _ _) ∙ fields-are _))
     (λ a. by-equal class 2
-    (λ e. gate e _ _ _ _ refl (ap (each field) (choice-false (ne-eqb class 1 a) _ _ ∙ choice-true (eq-eqb class 2 e) _ _) ∙ fields-are _))
-    (λ b. control (omega arith) _ _ _ _ refl
-    (ap (each field) (choice-false (ne-eqb class 1 a) _ _ ∙ choice-false (ne-eqb class 2 b) _ _) ∙ fields-are _)))
+    (λ e. gate e _ _ _ _ refl (ap (each spaced) (choice-false (ne-eqb class 1 a) _ _ ∙ choice-true (eq-eqb class 2 e) _ _) ∙ fields-are _))
+    (λ b. by-equal class 3
+    (λ e. control e _ _ _ _ refl
+    (ap (each spaced) (choice-false (ne-eqb class 1 a) _ _ ∙ choice-false (ne-eqb class 2 b) _ _ ∙ choice-true (eq-eqb class 3 e) _ _) ∙ fields-are _))
+    (λ c. let e : class ≡ 4 = omega arith in extra e _ _ _ _ refl
+    (ap (each spaced) (choice-false (ne-eqb class 1 a) _ _ ∙ choice-false (ne-eqb class 2 b) _ _ ∙ choice-false (ne-eqb class 3 c) _ _
+    ∙ choice-true (eq-eqb class 4 e) _ _) ∙ fields-are _))))
 
 module _ (n : ℕ) (words xs : List ℕ) (sound : Sound n words) where
-  class-line : (class : ℕ) → 1 ≤ class → ClassLine n words xs class (classText n (gatesOf words) xs class)
+  class-line : (class : ℕ) → 1 ≤ class → class ≤ 4 → ClassLine n words xs class (classText n (gatesOf words) xs class)
   unfolding classText caughtOf uncaughtOf line letterOf
-  class-line class lo =
+  class-line class lo hi =
       let gs : List Gate = gatesOf words in
       let fs : List Fault = classFaults n gs class in
       record {
@@ -140,7 +147,7 @@ module _ (n : ℕ) (words xs : List ℕ) (sound : Sound n words) where
         shown = firstTold (uncaughtOf gs xs fs);
         judged = judges n words xs class sound;
         last = firstText class (uncaughtOf gs xs fs);
-        last-is = last-of class lo (uncaughtOf gs xs fs);
+        last-is = last-of class lo hi (uncaughtOf gs xs fs);
         text-is = ap (λ l. textLine (letter class) (l ++ firstText class (uncaughtOf gs xs fs))) (fields-are (length (caughtOf gs xs fs) ∷ length fs ∷ []));
       }
 
@@ -148,10 +155,10 @@ module _ (n : ℕ) (words xs : List ℕ) (sound : Sound n words) where
   part : ℕ → ℕ → List ℕ
   part classes class = choice (isWanted classes class) (classText n (gatesOf words) xs class) []
 
-  wanted-is : (classes class : ℕ) → 1 ≤ class → Wanted n words xs classes class (part classes class)
+  wanted-is : (classes class : ℕ) → 1 ≤ class → class ≤ 4 → Wanted n words xs classes class (part classes class)
   unfolding part isWanted
-  wanted-is classes class lo = by-test (isWanted classes class)
-      (λ t. subst (Wanted n words xs classes class) (sym (choice-true t _ [])) (wants (eqb-true _ 1 t) (class-line class lo)))
+  wanted-is classes class lo hi = by-test (isWanted classes class)
+      (λ t. subst (Wanted n words xs classes class) (sym (choice-true t _ [])) (wants (eqb-true _ 1 t) (class-line class lo hi)))
       (λ t. subst (Wanted n words xs classes class) (sym (choice-false t _ [])) (wants-not (eqb-false _ 1 t) refl))
 
   kept-part : (classes class : ℕ) (rest : List ℕ)
@@ -186,8 +193,8 @@ job-reports bytes unbroken =
     let sound : Sound n words = held-set bytes 3072 2048 unbroken .set .circuit in
     verdicts n k words xs (gatesOf words) (held-job bytes 3072 2048 unbroken) (held-image bytes 3072 2048 unbroken)
     _ _ _ _
-    (wanted-is n words xs sound k 1 (omega arith)) (wanted-is n words xs sound k 2 (omega arith))
-    (wanted-is n words xs sound k 3 (omega arith)) (wanted-is n words xs sound k 4 (omega arith))
+    (wanted-is n words xs sound k 1 (omega arith) (omega arith)) (wanted-is n words xs sound k 2 (omega arith) (omega arith))
+    (wanted-is n words xs sound k 3 (omega arith) (omega arith)) (wanted-is n words xs sound k 4 (omega arith) (omega arith))
     (ap₂ (λ f l. textLine 74 f ++ l) (fields-are (n ∷ length (gatesOf words) ∷ length xs ∷ [])) (parts n words xs sound k))
 
 reports-of : (bytes : List ℕ) → Reports bytes (reportText bytes)
@@ -204,7 +211,7 @@ writes-report : (bytes room exit : List ℕ) → fine ≡ firstOf (reportRows by
 writes-report bytes room exit unbroken made = record {
   text = reportText bytes;
   reports = reports-of bytes;
-  told = refl;
+  values-are = refl;
   front = made ∙ sym (after-fine (reportRows bytes (length room)) _ _ unbroken);
 }
 

@@ -35,7 +35,7 @@ pub record RunsForward (n : ℕ) (words : List ℕ) (level input : ℕ) (values 
   pub circuit : Circuit n words gs
   pub there : level ≤ length gs
   pub state : ℕ
-  pub told : values ≡ state ∷ []
+  pub values-are : values ≡ state ∷ []
   pub is-level : Level gs level input state
   pub inside : state < 2 ^ n
 
@@ -45,7 +45,7 @@ pub record RunsBackward (n : ℕ) (words : List ℕ) (level state : ℕ) (values
   pub circuit : Circuit n words gs
   pub there : level ≤ length gs
   pub input : ℕ
-  pub told : values ≡ input ∷ []
+  pub values-are : values ≡ input ∷ []
   pub leads : Level gs level input state
   pub inside : input < 2 ^ n
 
@@ -63,7 +63,7 @@ module _ (n : ℕ) (words : List ℕ) (level state : ℕ) (unbroken : fine ≡ f
     circuit = circuit-is n words (ok .state .circuit);
     there = ok .level;
     state = forward its level state;
-    told = refl;
+    values-are = refl;
     is-level = runs-run (take level its) state;
     inside = forward-lt n its (ok .state .circuit .gates-ok) level state (ok .state .vector);
   }
@@ -77,7 +77,7 @@ module _ (n : ℕ) (words : List ℕ) (level state : ℕ) (unbroken : fine ≡ f
         circuit = circuit-is n words (ok .state .circuit);
         there = ok .level;
         input = x;
-        told = refl;
+        values-are = refl;
         leads = subst (Level its level x) (forward-backward n its (ok .state .circuit .gates-ok) level state) (runs-run (take level its) x);
         inside = backward-lt n its (ok .state .circuit .gates-ok) level state (ok .state .vector);
       }
@@ -104,7 +104,7 @@ backward-in-c = means-in-c 1 refusing-in-c.backward-refuses _ (λ κs a r e p. p
 
 -- level 0 is the input
 pub level-none : {n : ℕ} {words : List ℕ} {x s : ℕ} → RunsForward n words 0 x (s ∷ []) → s ≡ x
-level-none w = let e = w .is-level in let t = w .told in cc
+level-none w = let e = w .is-level in let t = w .values-are in cc
 
 -- gate i + 1 makes level i + 1 of level i
 pub level-more : {n : ℕ} {words : List ℕ} {i x s t : ℕ} → RunsForward n words i x (s ∷ []) → RunsForward n words (suc i) x (t ∷ [])
@@ -114,15 +114,16 @@ level-more {n} {words} {i} {x} {s} {t} low high =
     let gs : List Gate = high .gs in
     let same : low .gs ≡ gs = circuit-one n n words (low .gs) gs (low .circuit) (high .circuit) in
     let from : s ≡ run (take i gs) x =
-    (let e = low .told in cc) ∙ runs-is (take i gs) x (low .state) (subst (λ hs. Level hs i x (low .state)) same (low .is-level)) in
-    let to : t ≡ run (take (suc i) gs) x = (let e = high .told in cc) ∙ runs-is (take (suc i) gs) x (high .state) (high .is-level) in
+    (let e = low .values-are in cc) ∙ runs-is (take i gs) x (low .state) (subst (λ hs. Level hs i x (low .state)) same (low .is-level)) in
+    let to : t ≡ run (take (suc i) gs) x = (let e = high .values-are in cc) ∙ runs-is (take (suc i) gs) x (high .state) (high .is-level) in
     let made : t ≡ step (gate gs (suc i)) s =
     to ∙ level-step gs (suc i) x (omega arith) (high .there)
     ∙ ap (λ k. step (gate gs (suc i)) (run (take k gs) x)) (suc-sub-one i) ∙ ap (step (gate gs (suc i))) (sym from) in
     (gs, high .circuit, high .there, subst (Makes (gate gs (suc i)) s) (sym made) (makes-step (gate gs (suc i)) s))
 
 -- rules that one vector passes any other vector of the circuit passes
-pub passes-too : (n : ℕ) (words : List ℕ) (s t : ℕ) (more : List Row) → fine ≡ firstOf ((circuitRows n words ++ vectorRows n s) ++ more) fine → t < 2 ^ n
+pub passes-too : (n : ℕ) (words : List ℕ) (s t : ℕ) (more : List Row)
+    → fine ≡ firstOf ((circuitRows n words ++ vectorRows n s) ++ more) fine → t < 2 ^ n
     → fine ≡ firstOf ((circuitRows n words ++ vectorRows n t) ++ more) fine
 passes-too n words s t more e h =
     let w = fine-parts (circuitRows n words ++ vectorRows n s) more e in

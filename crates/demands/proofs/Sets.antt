@@ -53,7 +53,7 @@ use Rattle.demands.proofs.Demand1OfC as refusing-in-c
 
 -- a set that catches every stuck-at fault stands at the front of the room, the rest of which is as it was, and its number is told
 pub record Stands (n : ℕ) (gs : List Gate) (set room values exit : List ℕ) : Type 0 where
-  pub told : values ≡ length set ∷ []
+  pub values-are : values ≡ length set ∷ []
   pub in-room : length set ≤ length room
   pub front : exit ≡ set ++ drop (length set) room
   pub inputs : All (λ x. x < 2 ^ n) set
@@ -102,7 +102,7 @@ module _ (n : ℕ) (words room exit : List ℕ) where
       → exit ≡ after (backwardRows n words (length room)) (backwardSet n its ++ drop (length (backwardSet n its)) room) room
       → MakesBackward n words room (length (backwardSet n its) ∷ []) exit
   unfolding backwardSet forward
-  makes-backward unbroken uncaughtOf =
+  makes-backward unbroken left =
       let w = backward-ok n words (length room) unbroken in
       let ok : AllOk n its = w .circuit .gates-ok in
       let vectors : ℕ → ℕ = backwardInput n its in
@@ -112,7 +112,7 @@ module _ (n : ℕ) (words room exit : List ℕ) where
         ones = allOnes n;
         later = map vectors (upFrom 1 (length its));
         stands = record {
-          told = refl;
+          values-are = refl;
           in-room = omega (arith, backward-length n its, w .room-fits);
           front = left ∙ sym (after-fine (backwardRows n words (length room)) _ _ unbroken);
           inputs = backward-lts n its ok;
@@ -132,7 +132,7 @@ module _ (n : ℕ) (words room exit : List ℕ) where
       → exit ≡ after (compactRows n words (length room)) (compactSet n its ++ drop (length (compactSet n its)) room) room
       → MakesCompact n words room (length (compactSet n its) ∷ []) exit
   unfolding compactSet bound
-  makes-compact unbroken uncaughtOf =
+  makes-compact unbroken left =
       let w = compact-ok n words (length room) unbroken in
       let ok : AllOk n its = w .circuit .gates-ok in
       let S : ℕ = siteCount n its in
@@ -144,7 +144,7 @@ module _ (n : ℕ) (words room exit : List ℕ) where
         few-lines = w .lines-few;
         set = compactSet n its;
         stands = record {
-          told = refl;
+          values-are = refl;
           in-room = omega (arith, w .room-fits);
           front = left ∙ sym (after-fine (compactRows n words (length room)) _ _ unbroken);
           inputs = compact-lt n its;

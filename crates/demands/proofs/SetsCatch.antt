@@ -82,7 +82,7 @@ module _ (n : ℕ) (words : List ℕ) (gs : List Gate) (circuit : Circuit n word
 module _ (n : ℕ) (words room exit : List ℕ) (k : ℕ) (is : MakesCompact n words room (k ∷ []) exit) where
   front : is .set ≡ take k exit
   front =
-      let number : k ≡ length (is .set) = (let e = is .stands .told in cc) in
+      let number : k ≡ length (is .set) = (let e = is .stands .values-are in cc) in
       sym (ap (take k) (is .stands .front) ∙ take-at (is .set) _ k (sym number))
 
   pub compact-single : (x : ℕ) (f : Fault) → fine ≡ firstOf (catchRows n words x f) fine → f .class ≡ 1
@@ -102,7 +102,7 @@ module _ (n : ℕ) (words room exit : List ℕ) (k : ℕ) (is : MakesCompact n w
 
   -- at most 2 + floor(log2 S) vectors, and each picked by the rule
   pub compact-few : k ≤ 2 + is .log
-  compact-few = let e = is .stands .told in let number : k ≡ length (is .set) = cc in subst (λ m. m ≤ 2 + is .log) (sym number) (is .few)
+  compact-few = let e = is .stands .values-are in let number : k ≡ length (is .set) = cc in subst (λ m. m ≤ 2 + is .log) (sym number) (is .few)
 
   pub compact-picks : Picks n (is .gs) (is .faults) (take k exit)
   compact-picks = subst (Picks n (is .gs) (is .faults)) front (is .picked)

@@ -49,7 +49,7 @@ pub record Tests (n : ℕ) (words : List ℕ) (f : Fault) (values : List ℕ) : 
   pub circuit : Circuit n words gs
   pub fault : Has n gs f
   pub vector : ℕ
-  pub told : values ≡ vector ∷ []
+  pub values-are : values ≡ vector ∷ []
   pub inside : vector < 2 ^ n
   pub state : ℕ
   pub at-level : f .class ≡ 1 → Level gs (f .place) vector state
@@ -108,7 +108,7 @@ module _ (n : ℕ) (words : List ℕ) (f : Fault) (unbroken : fine ≡ firstOf (
         circuit = circuit-is n words (ok .circuit);
         fault = has;
         vector = testFor n its f;
-        told = refl;
+        values-are = refl;
         inside = test-lt n words f (ok .circuit) (ok .fault);
         state = testState n f;
         at-level = λ e. subst (λ i. Level its i (testFor n its f) (testState n f)) (level-stuck f e) seen;

@@ -94,13 +94,14 @@ module _ (p : Fault → Bool) (Yes No : Fault → Type 0) (fs : List Fault) (dec
       let parts = subst (All (Decides p Yes No)) (k .parts) decided in
       let front = all-front (Decides p Yes No) (k .before) (f ∷ k .after) parts in
       let back = all-back (Decides p Yes No) (k .before) (f ∷ k .after) parts in
-      first (k .before) f (k .after) (k .parts) (all-pass p Yes No (k .before) front (k .failed)) (back .0 .fails .0 (not-true (p f) (k .passes))) refl
+      first (k .before) f (k .after) (k .parts) (all-pass p Yes No (k .before) front (k .failed))
+      (back .0 .fails .0 (not-true (p f) (k .passes))) refl
 
   pub verdict-is : Verdict Yes No fs (toldOf p fs)
   verdict-is = record {
     caught = keep p fs;
     caught-are = kept-keep p Yes No fs decided;
     shown = firstTold (keep (λ f. not (p f)) fs);
-    told = refl;
+    values-are = refl;
     shows = shows-of (keep (λ f. not (p f)) fs) refl;
   }

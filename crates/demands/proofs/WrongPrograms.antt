@@ -15,9 +15,9 @@ use Rattle.refusals.specs.Tables.Told.{answered}
 use Rattle.refusals.specs.Places.{firstBadFrom, inWord}
 use Rattle.refusals.specs.declared.Refusal.{Refusal}
 use Rattle.circuit.specs.Gates.{gatesOf, gateAt, noGate}
-use Rattle.circuit.specs.Controls.{isControl}
+use Rattle.circuit.specs.Controls.{isControl, isOther}
 use Rattle.circuit.specs.Runs.{fires, step, run}
-use Rattle.circuit.specs.Rules.{badGate, firstBadGate, firstBadVector, circuitSetRows, circuitRows, setRows, vectorRows}
+use Rattle.circuit.specs.Rules.{badLines, badCounts, badGate, firstBadGate, firstBadVector, circuitSetRows, circuitRows, setRows, vectorRows}
 use Rattle.simulator.specs.Faulty.{forceAt, stuckRun, without, faulty, caught}
 use Rattle.faults.specs.Rules.{isStuckAt, isGate, isMissingGate, isMissingControl, isExtraControl, isFault}
 use Rattle.faults.specs.Records.{noFault, faultsOf, firstBadRecord}
@@ -40,7 +40,7 @@ use Rattle.faults.specs.Sites.{siteCount}
 use Rattle.testsets.specs.Rules.{compactRows}
 use Rattle.job.specs.Bytes.{numberAt, wordsAt}
 use Rattle.job.specs.Image.{linesIn, classesIn, gatesIn, vectorsIn, gateWords, vectorWords}
-use Rattle.job.specs.Rules.{badClasses, badSizes, readRows, headerRows, contentRows, badLines, badCounts}
+use Rattle.job.specs.Rules.{badClasses, badSizes, readRows, headerRows, contentRows}
 use Rattle.job.specs.Answers.{toldRead}
 use Rattle.job.specs.declared.Read.the-variants.{Refused}
 use Rattle.job.proofs.read_job.Reads as read-job
@@ -67,7 +67,7 @@ pub verdicts-are : (promisedVerdict (0 ∷ 7 ∷ []) ≡ answered (15 ∷ 18 ∷
     × (promisedVerdict (0 ∷ []) ≡ answered (9 ∷ 18 ∷ 0 ∷ 1 ∷ 0 ∷ 0 ∷ 0 ∷ []))
     × (promisedVerdict (0 ∷ 3 ∷ 5 ∷ []) ≡ answered (18 ∷ 18 ∷ 1 ∷ 0 ∷ 0 ∷ 0 ∷ 0 ∷ []))
 unfolding sampleWords upFrom keep each some bit flip force allOn allOnes linesOn gatesOf isControl step fires run forceAt stuckRun faulty caught
-    sites faultOf stuckFaults classFaults isClass caughtBySome verdict badGate firstBadGate firstBadVector circuitSetRows setRows classRows
+    sites faultOf stuckFaults classFaults isClass caughtBySome verdict badLines badCounts badGate firstBadGate firstBadVector circuitSetRows setRows classRows
     judgeRows firstBadFrom
 verdicts-are = (refl, refl, refl)
 
@@ -79,7 +79,7 @@ abbrev pub promisedList : List ℕ
 promisedList = after (dropRows 3 sampleWords 3 oneFault) (wordsOf (dropped (gatesOf sampleWords) 3 (faultsOf oneFault))) oneFault
 
 pub list-is : promisedList ≡ 0 ∷ 0 ∷ 0 ∷ 0 ∷ []
-unfolding sampleWords dropRows recordRows circuitSetRows circuitRows vectorRows badRecord isFault isStuckAt isGate isMissingGate isMissingControl
+unfolding sampleWords badLines badCounts isOther dropRows recordRows circuitSetRows circuitRows vectorRows badRecord isFault isStuckAt isGate isMissingGate isMissingControl
     isExtraControl noFault faultsOf firstBadRecord firstBadGate firstBadFrom badGate isControl bit flip allOn gatesOf gateAt noGate fires
     step run without faulty caught uncaught dropped wordsOf keep inWord
 list-is = refl
@@ -95,7 +95,7 @@ promisedRoom words = after (compactRows 3 words (length room))
 -- the sample circuit, and the circuit with no gate
 pub rooms-are : (promisedRoom sampleWords ≡ 0 ∷ 3 ∷ 5 ∷ 0 ∷ 0 ∷ []) × (promisedRoom [] ≡ 0 ∷ 7 ∷ 0 ∷ 0 ∷ 0 ∷ [])
 unfolding sampleWords upFrom keep each some sumFrom bit flip force allOn allOnes linesOn gatesOf isControl step fires run forceAt stuckRun faulty
-    caught sites faultOf stuckFaults caughtBySome uncaughtOf log2In log2 score bestOf best picks siteCount bound compactSet badGate firstBadGate
+    caught sites faultOf stuckFaults caughtBySome uncaughtOf log2In log2 score bestOf best picks siteCount bound compactSet badLines badCounts badGate firstBadGate
     circuitSetRows circuitRows compactRows firstBadFrom
 rooms-are = (refl, refl)
 
@@ -114,7 +114,8 @@ refuses-all-jobs call asked refusal wrong =
 
 -- the judge is asked for the stuck-at faults of the sample circuit by a set
 abbrev JudgedBy : List ℕ → Ended judge.Post → Type 0
-JudgedBy xs call = (call .inputs .0 ≡ 3) × (now (call .inputs .1 .0) ≡ sampleWords) × (now (call .inputs .1 .1 .0) ≡ xs) × (call .inputs .1 .1 .1 .0 ≡ 1)
+JudgedBy xs call = (call .inputs .0 ≡ 3) × (now (call .inputs .1 .0) ≡ sampleWords) × (now (call .inputs .1 .1 .0) ≡ xs)
+    × (call .inputs .1 .1 .1 .0 ≡ 1)
 
 judge-promise : (xs : List ℕ) (call : Ended judge.Post) → JudgedBy xs call → toldVerdict (call .result) ≡ promisedVerdict xs
 judge-promise xs call asked = let p = call .promised in cc

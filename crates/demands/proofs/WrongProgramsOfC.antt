@@ -30,7 +30,8 @@ refuses-all-jobs call asked wrong =
 
 -- the judge is asked for the stuck-at faults of the sample circuit by a set
 abbrev JudgedBy : List ℕ → Ended judge.Post → Type 0
-JudgedBy xs call = (call .inputs .0 ≡ 3) × (now (call .inputs .1 .0) ≡ sampleWords) × (now (call .inputs .1 .1 .0) ≡ xs) × (call .inputs .1 .1 .1 .0 ≡ 1)
+JudgedBy xs call = (call .inputs .0 ≡ 3) × (now (call .inputs .1 .0) ≡ sampleWords) × (now (call .inputs .1 .1 .0) ≡ xs)
+    × (call .inputs .1 .1 .1 .0 ≡ 1)
 
 abbrev struct : Judgement → List ℕ
 struct r = r .number ∷ r .place ∷ r .caught ∷ r .total ∷ r .complete ∷ r .first .class ∷ r .first .place ∷ r .first .line ∷ r .first .value ∷ []
