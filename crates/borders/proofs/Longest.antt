@@ -22,7 +22,7 @@ use Rattle.job.proofs.RoundTrip.{Holds, read-written, read-written-fine}
 use Rattle.text.specs.Decimal.{digit, decimalIn, decimal}
 use Rattle.report_text.specs.Lines.{spaced, line}
 use Rattle.report_text.specs.Report.{jobText, reportText, textOf}
-use Rattle.borders.specs.Calls.{askRead}
+use Rattle.job.specs.Promises.{readTells}
 use Rattle.borders.specs.Images.{longestJob}
 
 abbrev words : List ℕ
@@ -48,7 +48,7 @@ unfolding gateCount
 passed = subst (λ bytes. fine ≡ firstOf (readRows bytes 3072 2048) fine) image-is
     (read-written-fine 1 1 words vectors 20508 3072 2048 written (omega arith) (omega arith))
 
-pub longest-read : askRead longestJob (replicate 3072 9) (replicate 2048 9) ≡ answered (1 ∷ 1 ∷ 1024 ∷ 2048 ∷ [])
+pub longest-read : readTells longestJob (replicate 3072 9) (replicate 2048 9) ≡ answered (1 ∷ 1 ∷ 1024 ∷ 2048 ∷ [])
 unfolding gateCount
 longest-read =
     sym (fine-all (readRows longestJob 3072 2048) _ passed)

@@ -10,7 +10,8 @@ use Rattle.refusals.specs.declared.Refusal.{Refusal}
 use Rattle.refusals.specs.declared.Checked.the-variants as checked
 use Rattle.circuit.specs.Answers.{toldRan}
 use Rattle.circuit.specs.declared.Ran.the-variants as ran
-use Rattle.simulator.specs.Answers.{toldCaught, toldMade}
+use Rattle.simulator.specs.Answers.{toldOutput, toldCaught, toldMade}
+use Rattle.simulator.specs.declared.Output.the-variants as output
 use Rattle.simulator.specs.declared.Caught.the-variants as caught
 use Rattle.simulator.specs.declared.Made.the-variants as test
 use Rattle.judge.specs.Answers.{toldVerdict, toldBeside}
@@ -29,7 +30,7 @@ use Rattle.report_text.specs.declared.Reported.the-variants as reported
 use Rattle.answers.specs.Fields.{fields}
 use Rattle.borders.specs.Rows.{Row}
 use Rattle.borders.specs.Rows.Row.{_tells_, _gives_}
-use Rattle.borders.specs.Calls.{fault}
+use Rattle.borders.specs.Rows.{fault}
 
 -- rule 7 at place 2
 abbrev pub seven : Refusal
@@ -37,9 +38,11 @@ seven = record { number = 7; place = 2 }
 
 unfoldable pub answerTable : List Row
 answerTable =
-    -- a state; caught is 1 and not caught 0; a vector
-    told (ran.State 5) tells answered (5 ∷ []) ∷
-    told (ran.Refused seven) tells refused 7 2 ∷
+    -- a state; an output; caught is 1 and not caught 0; a vector
+    toldRan (ran.State 5) tells answered (5 ∷ []) ∷
+    toldRan (ran.Refused seven) tells refused 7 2 ∷
+    toldOutput (output.Word 5) tells answered (5 ∷ []) ∷
+    toldOutput (output.Refused seven) tells refused 7 2 ∷
     toldCaught caught.Yes tells answered (1 ∷ []) ∷
     toldCaught caught.No tells answered (0 ∷ []) ∷
     toldCaught (caught.Refused seven) tells refused 7 2 ∷

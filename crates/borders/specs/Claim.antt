@@ -6,7 +6,7 @@ use Rattle.basics.specs.Lists.{All}
 use Rattle.refusals.specs.Tables.Told.{answered}
 use Rattle.report_text.specs.Report.{reportText}
 use Rattle.borders.specs.Rows.{Right}
-use Rattle.borders.specs.Calls.{askRead}
+use Rattle.job.specs.Promises.{readTells}
 use Rattle.borders.specs.Answers.{answerTable}
 use Rattle.borders.specs.Circuit.{circuitTable}
 use Rattle.borders.specs.Faults.{faultTable}
@@ -40,6 +40,6 @@ pub record Borders : Type 0 where
   pub long-lists : All Right longTable
   pub long-orders : All Right longOrderTable
   -- the longest job is read into the least room for it: 1 line, class 1, 1,024 gates, 2,048 vectors
-  pub longest-read : askRead longestJob (replicate 3072 9) (replicate 2048 9) ≡ answered (1 ∷ 1 ∷ 1024 ∷ 2048 ∷ [])
+  pub longest-read : readTells longestJob (replicate 3072 9) (replicate 2048 9) ≡ answered (1 ∷ 1 ∷ 1024 ∷ 2048 ∷ [])
   -- and reported: J 1 1024 2048
   pub longest-reported : take 14 (reportText longestJob) ≡ 74 ∷ 32 ∷ 49 ∷ 32 ∷ 49 ∷ 48 ∷ 50 ∷ 52 ∷ 32 ∷ 50 ∷ 48 ∷ 52 ∷ 56 ∷ 10 ∷ []

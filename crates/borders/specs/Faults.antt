@@ -5,108 +5,109 @@ use Rattle.refusals.specs.Tables.Told.{answered, refused}
 use Rattle.proved_samples.specs.Sample.{sampleWords}
 use Rattle.borders.specs.Rows.{Row}
 use Rattle.borders.specs.Rows.Row.{_tells_}
-use Rattle.borders.specs.Calls.{fault, askFaultyRun, askCatches, askTest}
+use Rattle.simulator.specs.Promises.{outputTells, catchesTells, testForTells}
+use Rattle.borders.specs.Rows.{fault}
 
 unfoldable pub faultTable : List Row
 faultTable =
     -- rule 9, classes: 1 to 4; a fault alone has place 1
-    askCatches 3 sampleWords 3 (fault 0 0 0 0) tells refused 9 1 ∷
-    askCatches 3 sampleWords 3 (fault 0 1 0 0) tells refused 9 1 ∷
-    askCatches 3 sampleWords 3 (fault 1 1 0 0) tells answered (1 ∷ []) ∷
-    askCatches 3 sampleWords 3 (fault 4 2 2 0) tells answered (0 ∷ []) ∷
-    askCatches 3 sampleWords 3 (fault 5 1 0 0) tells refused 9 1 ∷
-    askCatches 3 sampleWords 3 (fault 5 2 2 0) tells refused 9 1 ∷
-    askCatches 3 sampleWords 3 (fault 4294967295 1 0 0) tells refused 9 1 ∷
+    catchesTells 3 sampleWords 3 (fault 0 0 0 0) tells refused 9 1 ∷
+    catchesTells 3 sampleWords 3 (fault 0 1 0 0) tells refused 9 1 ∷
+    catchesTells 3 sampleWords 3 (fault 1 1 0 0) tells answered (1 ∷ []) ∷
+    catchesTells 3 sampleWords 3 (fault 4 2 2 0) tells answered (0 ∷ []) ∷
+    catchesTells 3 sampleWords 3 (fault 5 1 0 0) tells refused 9 1 ∷
+    catchesTells 3 sampleWords 3 (fault 5 2 2 0) tells refused 9 1 ∷
+    catchesTells 3 sampleWords 3 (fault 4294967295 1 0 0) tells refused 9 1 ∷
     -- class 1, level: 0 to d
-    askCatches 3 sampleWords 3 (fault 1 0 0 0) tells answered (1 ∷ []) ∷
-    askCatches 3 sampleWords 3 (fault 1 2 0 0) tells answered (1 ∷ []) ∷
-    askCatches 3 sampleWords 3 (fault 1 3 0 0) tells refused 9 1 ∷
-    askCatches 1 [] 0 (fault 1 0 0 1) tells answered (1 ∷ []) ∷
-    askCatches 1 [] 0 (fault 1 1 0 1) tells refused 9 1 ∷
+    catchesTells 3 sampleWords 3 (fault 1 0 0 0) tells answered (1 ∷ []) ∷
+    catchesTells 3 sampleWords 3 (fault 1 2 0 0) tells answered (1 ∷ []) ∷
+    catchesTells 3 sampleWords 3 (fault 1 3 0 0) tells refused 9 1 ∷
+    catchesTells 1 [] 0 (fault 1 0 0 1) tells answered (1 ∷ []) ∷
+    catchesTells 1 [] 0 (fault 1 1 0 1) tells refused 9 1 ∷
     -- class 1, line: 0 to n-1
-    askCatches 3 sampleWords 3 (fault 1 0 0 1) tells answered (0 ∷ []) ∷
-    askCatches 3 sampleWords 3 (fault 1 0 2 1) tells answered (1 ∷ []) ∷
-    askCatches 3 sampleWords 3 (fault 1 0 3 1) tells refused 9 1 ∷
-    askCatches 3 sampleWords 3 (fault 1 2 2 0) tells answered (1 ∷ []) ∷
-    askCatches 3 sampleWords 3 (fault 1 2 3 0) tells refused 9 1 ∷
-    askCatches 32 [] 0 (fault 1 0 31 1) tells answered (1 ∷ []) ∷
-    askCatches 32 [] 0 (fault 1 0 32 1) tells refused 9 1 ∷
+    catchesTells 3 sampleWords 3 (fault 1 0 0 1) tells answered (0 ∷ []) ∷
+    catchesTells 3 sampleWords 3 (fault 1 0 2 1) tells answered (1 ∷ []) ∷
+    catchesTells 3 sampleWords 3 (fault 1 0 3 1) tells refused 9 1 ∷
+    catchesTells 3 sampleWords 3 (fault 1 2 2 0) tells answered (1 ∷ []) ∷
+    catchesTells 3 sampleWords 3 (fault 1 2 3 0) tells refused 9 1 ∷
+    catchesTells 32 [] 0 (fault 1 0 31 1) tells answered (1 ∷ []) ∷
+    catchesTells 32 [] 0 (fault 1 0 32 1) tells refused 9 1 ∷
     -- class 1, value: 0 or 1
-    askCatches 3 sampleWords 3 (fault 1 1 2 0) tells answered (1 ∷ []) ∷
-    askCatches 3 sampleWords 3 (fault 1 1 2 1) tells answered (0 ∷ []) ∷
-    askCatches 3 sampleWords 3 (fault 1 1 2 2) tells refused 9 1 ∷
+    catchesTells 3 sampleWords 3 (fault 1 1 2 0) tells answered (1 ∷ []) ∷
+    catchesTells 3 sampleWords 3 (fault 1 1 2 1) tells answered (0 ∷ []) ∷
+    catchesTells 3 sampleWords 3 (fault 1 1 2 2) tells refused 9 1 ∷
     -- class 2, gate: 1 to d
-    askCatches 3 sampleWords 3 (fault 2 0 0 0) tells refused 9 1 ∷
-    askCatches 3 sampleWords 3 (fault 2 1 0 0) tells answered (1 ∷ []) ∷
-    askCatches 3 sampleWords 3 (fault 2 2 0 0) tells answered (1 ∷ []) ∷
-    askCatches 3 sampleWords 3 (fault 2 3 0 0) tells refused 9 1 ∷
+    catchesTells 3 sampleWords 3 (fault 2 0 0 0) tells refused 9 1 ∷
+    catchesTells 3 sampleWords 3 (fault 2 1 0 0) tells answered (1 ∷ []) ∷
+    catchesTells 3 sampleWords 3 (fault 2 2 0 0) tells answered (1 ∷ []) ∷
+    catchesTells 3 sampleWords 3 (fault 2 3 0 0) tells refused 9 1 ∷
     -- class 2, line and value: 0
-    askCatches 3 sampleWords 3 (fault 2 1 1 0) tells refused 9 1 ∷
-    askCatches 3 sampleWords 3 (fault 2 2 2 0) tells refused 9 1 ∷
-    askCatches 3 sampleWords 3 (fault 2 1 0 1) tells refused 9 1 ∷
+    catchesTells 3 sampleWords 3 (fault 2 1 1 0) tells refused 9 1 ∷
+    catchesTells 3 sampleWords 3 (fault 2 2 2 0) tells refused 9 1 ∷
+    catchesTells 3 sampleWords 3 (fault 2 1 0 1) tells refused 9 1 ∷
     -- class 3, gate: 1 to d
-    askCatches 3 sampleWords 2 (fault 3 0 0 0) tells refused 9 1 ∷
-    askCatches 3 sampleWords 2 (fault 3 1 0 0) tells answered (1 ∷ []) ∷
-    askCatches 3 sampleWords 2 (fault 3 2 0 0) tells answered (1 ∷ []) ∷
-    askCatches 3 sampleWords 2 (fault 3 3 0 0) tells refused 9 1 ∷
+    catchesTells 3 sampleWords 2 (fault 3 0 0 0) tells refused 9 1 ∷
+    catchesTells 3 sampleWords 2 (fault 3 1 0 0) tells answered (1 ∷ []) ∷
+    catchesTells 3 sampleWords 2 (fault 3 2 0 0) tells answered (1 ∷ []) ∷
+    catchesTells 3 sampleWords 2 (fault 3 3 0 0) tells refused 9 1 ∷
     -- class 3, line: a control of the gate
-    askCatches 3 sampleWords 2 (fault 3 1 1 0) tells answered (0 ∷ []) ∷
-    askCatches 3 sampleWords 2 (fault 3 1 2 0) tells refused 9 1 ∷
-    askCatches 3 sampleWords 2 (fault 3 1 3 0) tells refused 9 1 ∷
-    askCatches 3 sampleWords 2 (fault 3 2 1 0) tells refused 9 1 ∷
-    askCatches 3 sampleWords 2 (fault 3 2 2 0) tells refused 9 1 ∷
-    askCatches 32 (2147483648 ∷ 0 ∷ 0 ∷ []) 0 (fault 3 1 31 0) tells answered (1 ∷ []) ∷
-    askCatches 32 (2147483648 ∷ 0 ∷ 0 ∷ []) 0 (fault 3 1 32 0) tells refused 9 1 ∷
+    catchesTells 3 sampleWords 2 (fault 3 1 1 0) tells answered (0 ∷ []) ∷
+    catchesTells 3 sampleWords 2 (fault 3 1 2 0) tells refused 9 1 ∷
+    catchesTells 3 sampleWords 2 (fault 3 1 3 0) tells refused 9 1 ∷
+    catchesTells 3 sampleWords 2 (fault 3 2 1 0) tells refused 9 1 ∷
+    catchesTells 3 sampleWords 2 (fault 3 2 2 0) tells refused 9 1 ∷
+    catchesTells 32 (2147483648 ∷ 0 ∷ 0 ∷ []) 0 (fault 3 1 31 0) tells answered (1 ∷ []) ∷
+    catchesTells 32 (2147483648 ∷ 0 ∷ 0 ∷ []) 0 (fault 3 1 32 0) tells refused 9 1 ∷
     -- class 3, value: 0
-    askCatches 3 sampleWords 2 (fault 3 1 0 1) tells refused 9 1 ∷
-    askCatches 3 sampleWords 2 (fault 3 1 0 2) tells refused 9 1 ∷
+    catchesTells 3 sampleWords 2 (fault 3 1 0 1) tells refused 9 1 ∷
+    catchesTells 3 sampleWords 2 (fault 3 1 0 2) tells refused 9 1 ∷
     -- class 4, gate: 1 to d, on 3 lines and one gate with control 0 and target 1
-    askCatches 3 (1 ∷ 0 ∷ 1 ∷ []) 1 (fault 4 0 2 0) tells refused 9 1 ∷
-    askCatches 3 (1 ∷ 0 ∷ 1 ∷ []) 1 (fault 4 1 2 0) tells answered (1 ∷ []) ∷
-    askCatches 3 (1 ∷ 0 ∷ 1 ∷ []) 1 (fault 4 2 2 0) tells refused 9 1 ∷
+    catchesTells 3 (1 ∷ 0 ∷ 1 ∷ []) 1 (fault 4 0 2 0) tells refused 9 1 ∷
+    catchesTells 3 (1 ∷ 0 ∷ 1 ∷ []) 1 (fault 4 1 2 0) tells answered (1 ∷ []) ∷
+    catchesTells 3 (1 ∷ 0 ∷ 1 ∷ []) 1 (fault 4 2 2 0) tells refused 9 1 ∷
     -- class 4, line: 0 to n-1, neither a control nor the target
-    askCatches 3 sampleWords 1 (fault 4 2 0 0) tells refused 9 1 ∷
-    askCatches 3 sampleWords 1 (fault 4 2 1 0) tells refused 9 1 ∷
-    askCatches 3 sampleWords 1 (fault 4 2 2 0) tells answered (1 ∷ []) ∷
-    askCatches 3 sampleWords 1 (fault 4 2 3 0) tells refused 9 1 ∷
-    askCatches 3 sampleWords 1 (fault 4 1 0 0) tells refused 9 1 ∷
-    askCatches 3 sampleWords 1 (fault 4 1 1 0) tells refused 9 1 ∷
-    askCatches 3 sampleWords 1 (fault 4 1 2 0) tells refused 9 1 ∷
-    askCatches 3 sampleWords 1 (fault 4 1 3 0) tells refused 9 1 ∷
-    askCatches 32 (0 ∷ 0 ∷ 0 ∷ []) 0 (fault 4 1 31 0) tells answered (1 ∷ []) ∷
-    askCatches 32 (0 ∷ 0 ∷ 0 ∷ []) 0 (fault 4 1 32 0) tells refused 9 1 ∷
+    catchesTells 3 sampleWords 1 (fault 4 2 0 0) tells refused 9 1 ∷
+    catchesTells 3 sampleWords 1 (fault 4 2 1 0) tells refused 9 1 ∷
+    catchesTells 3 sampleWords 1 (fault 4 2 2 0) tells answered (1 ∷ []) ∷
+    catchesTells 3 sampleWords 1 (fault 4 2 3 0) tells refused 9 1 ∷
+    catchesTells 3 sampleWords 1 (fault 4 1 0 0) tells refused 9 1 ∷
+    catchesTells 3 sampleWords 1 (fault 4 1 1 0) tells refused 9 1 ∷
+    catchesTells 3 sampleWords 1 (fault 4 1 2 0) tells refused 9 1 ∷
+    catchesTells 3 sampleWords 1 (fault 4 1 3 0) tells refused 9 1 ∷
+    catchesTells 32 (0 ∷ 0 ∷ 0 ∷ []) 0 (fault 4 1 31 0) tells answered (1 ∷ []) ∷
+    catchesTells 32 (0 ∷ 0 ∷ 0 ∷ []) 0 (fault 4 1 32 0) tells refused 9 1 ∷
     -- class 4, value: 0
-    askCatches 3 sampleWords 1 (fault 4 2 2 1) tells refused 9 1 ∷
-    askCatches 3 sampleWords 1 (fault 4 2 2 2) tells refused 9 1 ∷
+    catchesTells 3 sampleWords 1 (fault 4 2 2 1) tells refused 9 1 ∷
+    catchesTells 3 sampleWords 1 (fault 4 2 2 2) tells refused 9 1 ∷
     -- the same rule for the faulty run
-    askFaultyRun 3 sampleWords 3 (fault 0 1 0 0) tells refused 9 1 ∷
-    askFaultyRun 3 sampleWords 3 (fault 1 2 2 1) tells answered (5 ∷ []) ∷
-    askFaultyRun 3 sampleWords 3 (fault 1 3 2 1) tells refused 9 1 ∷
-    askFaultyRun 3 sampleWords 3 (fault 5 1 0 0) tells refused 9 1 ∷
+    outputTells 3 sampleWords 3 (fault 0 1 0 0) tells refused 9 1 ∷
+    outputTells 3 sampleWords 3 (fault 1 2 2 1) tells answered (5 ∷ []) ∷
+    outputTells 3 sampleWords 3 (fault 1 3 2 1) tells refused 9 1 ∷
+    outputTells 3 sampleWords 3 (fault 5 1 0 0) tells refused 9 1 ∷
     -- and for the test of a fault
-    askTest 3 sampleWords (fault 0 1 0 0) tells refused 9 1 ∷
-    askTest 3 sampleWords (fault 1 2 2 1) tells answered (1 ∷ []) ∷
-    askTest 3 sampleWords (fault 1 2 2 2) tells refused 9 1 ∷
-    askTest 3 sampleWords (fault 1 2 3 1) tells refused 9 1 ∷
-    askTest 3 sampleWords (fault 1 3 2 1) tells refused 9 1 ∷
-    askTest 3 sampleWords (fault 2 0 0 0) tells refused 9 1 ∷
-    askTest 3 sampleWords (fault 2 3 0 0) tells refused 9 1 ∷
-    askTest 3 sampleWords (fault 3 1 2 0) tells refused 9 1 ∷
-    askTest 3 sampleWords (fault 4 2 1 0) tells refused 9 1 ∷
-    askTest 3 sampleWords (fault 5 1 0 0) tells refused 9 1 ∷
+    testForTells 3 sampleWords (fault 0 1 0 0) tells refused 9 1 ∷
+    testForTells 3 sampleWords (fault 1 2 2 1) tells answered (1 ∷ []) ∷
+    testForTells 3 sampleWords (fault 1 2 2 2) tells refused 9 1 ∷
+    testForTells 3 sampleWords (fault 1 2 3 1) tells refused 9 1 ∷
+    testForTells 3 sampleWords (fault 1 3 2 1) tells refused 9 1 ∷
+    testForTells 3 sampleWords (fault 2 0 0 0) tells refused 9 1 ∷
+    testForTells 3 sampleWords (fault 2 3 0 0) tells refused 9 1 ∷
+    testForTells 3 sampleWords (fault 3 1 2 0) tells refused 9 1 ∷
+    testForTells 3 sampleWords (fault 4 2 1 0) tells refused 9 1 ∷
+    testForTells 3 sampleWords (fault 5 1 0 0) tells refused 9 1 ∷
     -- rule 8, a vector of 2^n or more, alone
-    askCatches 3 sampleWords 7 (fault 1 0 0 0) tells answered (1 ∷ []) ∷
-    askCatches 3 sampleWords 8 (fault 1 0 0 0) tells refused 8 1 ∷
-    askCatches 32 [] 4294967295 (fault 1 0 0 0) tells answered (1 ∷ []) ∷
-    askFaultyRun 3 sampleWords 7 (fault 1 0 0 1) tells answered (1 ∷ []) ∷
-    askFaultyRun 3 sampleWords 8 (fault 1 0 0 1) tells refused 8 1 ∷
+    catchesTells 3 sampleWords 7 (fault 1 0 0 0) tells answered (1 ∷ []) ∷
+    catchesTells 3 sampleWords 8 (fault 1 0 0 0) tells refused 8 1 ∷
+    catchesTells 32 [] 4294967295 (fault 1 0 0 0) tells answered (1 ∷ []) ∷
+    outputTells 3 sampleWords 7 (fault 1 0 0 1) tells answered (1 ∷ []) ∷
+    outputTells 3 sampleWords 8 (fault 1 0 0 1) tells refused 8 1 ∷
     -- rule 3
-    askCatches 0 [] 0 (fault 1 0 0 1) tells refused 3 0 ∷
-    askCatches 1 [] 0 (fault 1 0 0 1) tells answered (1 ∷ []) ∷
-    askCatches 32 [] 0 (fault 1 0 0 1) tells answered (1 ∷ []) ∷
-    askCatches 33 [] 0 (fault 1 0 0 1) tells refused 3 0 ∷
-    askTest 0 [] (fault 1 0 0 1) tells refused 3 0 ∷
-    askTest 1 [] (fault 1 0 0 1) tells answered (0 ∷ []) ∷
-    askTest 32 [] (fault 1 0 0 0) tells answered (4294967295 ∷ []) ∷
-    askTest 32 [] (fault 1 0 31 1) tells answered (2147483647 ∷ []) ∷
-    askTest 33 [] (fault 1 0 0 1) tells refused 3 0 ∷ []
+    catchesTells 0 [] 0 (fault 1 0 0 1) tells refused 3 0 ∷
+    catchesTells 1 [] 0 (fault 1 0 0 1) tells answered (1 ∷ []) ∷
+    catchesTells 32 [] 0 (fault 1 0 0 1) tells answered (1 ∷ []) ∷
+    catchesTells 33 [] 0 (fault 1 0 0 1) tells refused 3 0 ∷
+    testForTells 0 [] (fault 1 0 0 1) tells refused 3 0 ∷
+    testForTells 1 [] (fault 1 0 0 1) tells answered (0 ∷ []) ∷
+    testForTells 32 [] (fault 1 0 0 0) tells answered (4294967295 ∷ []) ∷
+    testForTells 32 [] (fault 1 0 31 1) tells answered (2147483647 ∷ []) ∷
+    testForTells 33 [] (fault 1 0 0 1) tells refused 3 0 ∷ []

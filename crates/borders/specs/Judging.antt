@@ -8,87 +8,87 @@ use Rattle.judge.specs.declared.coverage.Coverage.{Coverage}
 use Rattle.proved_samples.specs.Sample.{sampleWords}
 use Rattle.borders.specs.Rows.{Row}
 use Rattle.borders.specs.Rows.Row.{_tells_, _gives_}
-use Rattle.borders.specs.Calls.{askJudge, askWithVector, afterWithVector, askCount}
+use Rattle.judge.specs.Promises.{judgeTells, withVectorTells, withVectorGives, countTells}
 
 -- coverages of the sample circuit: with vector 3, with vector 1, and with the set 0, 3, 5
 abbrev pub with3 : Coverage
-with3 = afterWithVector emptyCoverage 3 sampleWords 3
+with3 = withVectorGives emptyCoverage 3 sampleWords 3
 
 abbrev pub with1 : Coverage
-with1 = afterWithVector emptyCoverage 3 sampleWords 1
+with1 = withVectorGives emptyCoverage 3 sampleWords 1
 
 abbrev pub with035 : Coverage
-with035 = afterWithVector (afterWithVector (afterWithVector emptyCoverage 3 sampleWords 0) 3 sampleWords 3) 3 sampleWords 5
+with035 = withVectorGives (withVectorGives (withVectorGives emptyCoverage 3 sampleWords 0) 3 sampleWords 3) 3 sampleWords 5
 
 unfoldable pub judgeTable : List Row
 judgeTable =
     -- rule 9: classes 1 to 4; a class alone has place 1
-    askJudge 3 sampleWords (0 ∷ 3 ∷ 5 ∷ []) 0 tells refused 9 1 ∷
-    askJudge 3 sampleWords (0 ∷ 3 ∷ 5 ∷ []) 1 tells answered (18 ∷ 18 ∷ 1 ∷ 0 ∷ 0 ∷ 0 ∷ 0 ∷ []) ∷
-    askJudge 3 sampleWords (0 ∷ 3 ∷ 5 ∷ []) 2 tells answered (2 ∷ 2 ∷ 1 ∷ 0 ∷ 0 ∷ 0 ∷ 0 ∷ []) ∷
-    askJudge 3 sampleWords (0 ∷ 3 ∷ 5 ∷ []) 3 tells answered (2 ∷ 3 ∷ 0 ∷ 3 ∷ 1 ∷ 0 ∷ 0 ∷ []) ∷
-    askJudge 3 sampleWords (0 ∷ 3 ∷ 5 ∷ []) 4 tells answered (0 ∷ 1 ∷ 0 ∷ 4 ∷ 2 ∷ 2 ∷ 0 ∷ []) ∷
-    askJudge 3 sampleWords (0 ∷ 3 ∷ 5 ∷ []) 5 tells refused 9 1 ∷
-    askJudge 3 sampleWords (0 ∷ 3 ∷ 5 ∷ []) 4294967295 tells refused 9 1 ∷
+    judgeTells 3 sampleWords (0 ∷ 3 ∷ 5 ∷ []) 0 tells refused 9 1 ∷
+    judgeTells 3 sampleWords (0 ∷ 3 ∷ 5 ∷ []) 1 tells answered (18 ∷ 18 ∷ 1 ∷ 0 ∷ 0 ∷ 0 ∷ 0 ∷ []) ∷
+    judgeTells 3 sampleWords (0 ∷ 3 ∷ 5 ∷ []) 2 tells answered (2 ∷ 2 ∷ 1 ∷ 0 ∷ 0 ∷ 0 ∷ 0 ∷ []) ∷
+    judgeTells 3 sampleWords (0 ∷ 3 ∷ 5 ∷ []) 3 tells answered (2 ∷ 3 ∷ 0 ∷ 3 ∷ 1 ∷ 0 ∷ 0 ∷ []) ∷
+    judgeTells 3 sampleWords (0 ∷ 3 ∷ 5 ∷ []) 4 tells answered (0 ∷ 1 ∷ 0 ∷ 4 ∷ 2 ∷ 2 ∷ 0 ∷ []) ∷
+    judgeTells 3 sampleWords (0 ∷ 3 ∷ 5 ∷ []) 5 tells refused 9 1 ∷
+    judgeTells 3 sampleWords (0 ∷ 3 ∷ 5 ∷ []) 4294967295 tells refused 9 1 ∷
     -- the first uncaught fault
-    askJudge 3 sampleWords (0 ∷ 7 ∷ []) 1 tells answered (15 ∷ 18 ∷ 0 ∷ 1 ∷ 1 ∷ 2 ∷ 0 ∷ []) ∷
-    askJudge 3 sampleWords (7 ∷ []) 1 tells answered (9 ∷ 18 ∷ 0 ∷ 1 ∷ 0 ∷ 0 ∷ 1 ∷ []) ∷
-    askJudge 3 sampleWords (1 ∷ []) 2 tells answered (1 ∷ 2 ∷ 0 ∷ 2 ∷ 1 ∷ 0 ∷ 0 ∷ []) ∷
-    askJudge 3 sampleWords (1 ∷ []) 4 tells answered (1 ∷ 1 ∷ 1 ∷ 0 ∷ 0 ∷ 0 ∷ 0 ∷ []) ∷
+    judgeTells 3 sampleWords (0 ∷ 7 ∷ []) 1 tells answered (15 ∷ 18 ∷ 0 ∷ 1 ∷ 1 ∷ 2 ∷ 0 ∷ []) ∷
+    judgeTells 3 sampleWords (7 ∷ []) 1 tells answered (9 ∷ 18 ∷ 0 ∷ 1 ∷ 0 ∷ 0 ∷ 1 ∷ []) ∷
+    judgeTells 3 sampleWords (1 ∷ []) 2 tells answered (1 ∷ 2 ∷ 0 ∷ 2 ∷ 1 ∷ 0 ∷ 0 ∷ []) ∷
+    judgeTells 3 sampleWords (1 ∷ []) 4 tells answered (1 ∷ 1 ∷ 1 ∷ 0 ∷ 0 ∷ 0 ∷ 0 ∷ []) ∷
     -- a set with no vectors; a class with no faults is complete
-    askJudge 1 [] [] 1 tells answered (0 ∷ 2 ∷ 0 ∷ 1 ∷ 0 ∷ 0 ∷ 0 ∷ []) ∷
-    askJudge 1 [] [] 2 tells answered (0 ∷ 0 ∷ 1 ∷ 0 ∷ 0 ∷ 0 ∷ 0 ∷ []) ∷
-    askJudge 1 [] [] 3 tells answered (0 ∷ 0 ∷ 1 ∷ 0 ∷ 0 ∷ 0 ∷ 0 ∷ []) ∷
-    askJudge 1 [] [] 4 tells answered (0 ∷ 0 ∷ 1 ∷ 0 ∷ 0 ∷ 0 ∷ 0 ∷ []) ∷
+    judgeTells 1 [] [] 1 tells answered (0 ∷ 2 ∷ 0 ∷ 1 ∷ 0 ∷ 0 ∷ 0 ∷ []) ∷
+    judgeTells 1 [] [] 2 tells answered (0 ∷ 0 ∷ 1 ∷ 0 ∷ 0 ∷ 0 ∷ 0 ∷ []) ∷
+    judgeTells 1 [] [] 3 tells answered (0 ∷ 0 ∷ 1 ∷ 0 ∷ 0 ∷ 0 ∷ 0 ∷ []) ∷
+    judgeTells 1 [] [] 4 tells answered (0 ∷ 0 ∷ 1 ∷ 0 ∷ 0 ∷ 0 ∷ 0 ∷ []) ∷
     -- rule 8: the first vector of 2^n or more, from 1
-    askJudge 3 sampleWords (8 ∷ []) 2 tells refused 8 1 ∷
-    askJudge 3 sampleWords (7 ∷ 8 ∷ []) 2 tells refused 8 2 ∷
-    askJudge 3 sampleWords (0 ∷ 7 ∷ 9 ∷ 8 ∷ []) 2 tells refused 8 3 ∷
-    askJudge 1 [] (1 ∷ 0 ∷ 2 ∷ []) 2 tells refused 8 3 ∷
-    askJudge 32 [] (4294967295 ∷ []) 1 tells answered (32 ∷ 64 ∷ 0 ∷ 1 ∷ 0 ∷ 0 ∷ 1 ∷ []) ∷
+    judgeTells 3 sampleWords (8 ∷ []) 2 tells refused 8 1 ∷
+    judgeTells 3 sampleWords (7 ∷ 8 ∷ []) 2 tells refused 8 2 ∷
+    judgeTells 3 sampleWords (0 ∷ 7 ∷ 9 ∷ 8 ∷ []) 2 tells refused 8 3 ∷
+    judgeTells 1 [] (1 ∷ 0 ∷ 2 ∷ []) 2 tells refused 8 3 ∷
+    judgeTells 32 [] (4294967295 ∷ []) 1 tells answered (32 ∷ 64 ∷ 0 ∷ 1 ∷ 0 ∷ 0 ∷ 1 ∷ []) ∷
     -- rule 3
-    askJudge 0 [] [] 2 tells refused 3 0 ∷
-    askJudge 32 [] [] 2 tells answered (0 ∷ 0 ∷ 1 ∷ 0 ∷ 0 ∷ 0 ∷ 0 ∷ []) ∷
-    askJudge 33 [] [] 2 tells refused 3 0 ∷
+    judgeTells 0 [] [] 2 tells refused 3 0 ∷
+    judgeTells 32 [] [] 2 tells answered (0 ∷ 0 ∷ 1 ∷ 0 ∷ 0 ∷ 0 ∷ 0 ∷ []) ∷
+    judgeTells 33 [] [] 2 tells refused 3 0 ∷
     -- an empty coverage: a word for each of 1,025 levels, twice, and for each of 1,024 gates, three times
     (length (emptyCoverage .«stuck_at_0») ∷ length (emptyCoverage .«stuck_at_1») ∷ length (emptyCoverage .«missing_gates»)
     ∷ length (emptyCoverage .«missing_controls») ∷ length (emptyCoverage .«extra_controls») ∷ [])
     gives (1025 ∷ 1025 ∷ 1024 ∷ 1024 ∷ 1024 ∷ []) ∷
-    askCount emptyCoverage 3 sampleWords 1 tells answered (0 ∷ 18 ∷ 0 ∷ 1 ∷ 0 ∷ 0 ∷ 0 ∷ []) ∷
-    askCount emptyCoverage 3 sampleWords 2 tells answered (0 ∷ 2 ∷ 0 ∷ 2 ∷ 1 ∷ 0 ∷ 0 ∷ []) ∷
-    askCount emptyCoverage 3 sampleWords 3 tells answered (0 ∷ 3 ∷ 0 ∷ 3 ∷ 1 ∷ 0 ∷ 0 ∷ []) ∷
-    askCount emptyCoverage 3 sampleWords 4 tells answered (0 ∷ 1 ∷ 0 ∷ 4 ∷ 2 ∷ 2 ∷ 0 ∷ []) ∷
+    countTells emptyCoverage 3 sampleWords 1 tells answered (0 ∷ 18 ∷ 0 ∷ 1 ∷ 0 ∷ 0 ∷ 0 ∷ []) ∷
+    countTells emptyCoverage 3 sampleWords 2 tells answered (0 ∷ 2 ∷ 0 ∷ 2 ∷ 1 ∷ 0 ∷ 0 ∷ []) ∷
+    countTells emptyCoverage 3 sampleWords 3 tells answered (0 ∷ 3 ∷ 0 ∷ 3 ∷ 1 ∷ 0 ∷ 0 ∷ []) ∷
+    countTells emptyCoverage 3 sampleWords 4 tells answered (0 ∷ 1 ∷ 0 ∷ 4 ∷ 2 ∷ 2 ∷ 0 ∷ []) ∷
     -- a coverage with one vector: the words of the lines at which it catches, at levels 0, 1, 2 or gates 1, 2
     take 4 (with3 .«stuck_at_0») gives (3 ∷ 7 ∷ 5 ∷ 0 ∷ []) ∷
     take 4 (with3 .«stuck_at_1») gives (4 ∷ 0 ∷ 2 ∷ 0 ∷ []) ∷
-    take 3 (with1 .«missing_gates») gives (0 ∷ 7 ∷ 0 ∷ []) ∷
+    take 3 (with1 .«missing_gates») gives (0 ∷ 1 ∷ 0 ∷ []) ∷
     take 3 (with1 .«missing_controls») gives (2 ∷ 0 ∷ 0 ∷ []) ∷
-    take 3 (with1 .«extra_controls») gives (0 ∷ 6 ∷ 0 ∷ []) ∷
-    askCount with3 3 sampleWords 1 tells answered (9 ∷ 18 ∷ 0 ∷ 1 ∷ 0 ∷ 0 ∷ 1 ∷ []) ∷
-    askCount with3 3 sampleWords 2 tells answered (2 ∷ 2 ∷ 1 ∷ 0 ∷ 0 ∷ 0 ∷ 0 ∷ []) ∷
-    askCount with1 3 sampleWords 3 tells answered (1 ∷ 3 ∷ 0 ∷ 3 ∷ 1 ∷ 0 ∷ 0 ∷ []) ∷
-    askCount with1 3 sampleWords 4 tells answered (1 ∷ 1 ∷ 1 ∷ 0 ∷ 0 ∷ 0 ∷ 0 ∷ []) ∷
+    take 3 (with1 .«extra_controls») gives (0 ∷ 4 ∷ 0 ∷ []) ∷
+    countTells with3 3 sampleWords 1 tells answered (9 ∷ 18 ∷ 0 ∷ 1 ∷ 0 ∷ 0 ∷ 1 ∷ []) ∷
+    countTells with3 3 sampleWords 2 tells answered (2 ∷ 2 ∷ 1 ∷ 0 ∷ 0 ∷ 0 ∷ 0 ∷ []) ∷
+    countTells with1 3 sampleWords 3 tells answered (1 ∷ 3 ∷ 0 ∷ 3 ∷ 1 ∷ 0 ∷ 0 ∷ []) ∷
+    countTells with1 3 sampleWords 4 tells answered (1 ∷ 1 ∷ 1 ∷ 0 ∷ 0 ∷ 0 ∷ 0 ∷ []) ∷
     -- with a set's vectors in turn it ends as the judge of that set
-    askCount with035 3 sampleWords 1 tells answered (18 ∷ 18 ∷ 1 ∷ 0 ∷ 0 ∷ 0 ∷ 0 ∷ []) ∷
-    askCount with035 3 sampleWords 2 tells answered (2 ∷ 2 ∷ 1 ∷ 0 ∷ 0 ∷ 0 ∷ 0 ∷ []) ∷
-    askCount with035 3 sampleWords 3 tells answered (2 ∷ 3 ∷ 0 ∷ 3 ∷ 1 ∷ 0 ∷ 0 ∷ []) ∷
-    askCount with035 3 sampleWords 4 tells answered (0 ∷ 1 ∷ 0 ∷ 4 ∷ 2 ∷ 2 ∷ 0 ∷ []) ∷
+    countTells with035 3 sampleWords 1 tells answered (18 ∷ 18 ∷ 1 ∷ 0 ∷ 0 ∷ 0 ∷ 0 ∷ []) ∷
+    countTells with035 3 sampleWords 2 tells answered (2 ∷ 2 ∷ 1 ∷ 0 ∷ 0 ∷ 0 ∷ 0 ∷ []) ∷
+    countTells with035 3 sampleWords 3 tells answered (2 ∷ 3 ∷ 0 ∷ 3 ∷ 1 ∷ 0 ∷ 0 ∷ []) ∷
+    countTells with035 3 sampleWords 4 tells answered (0 ∷ 1 ∷ 0 ∷ 4 ∷ 2 ∷ 2 ∷ 0 ∷ []) ∷
     -- marks of faults that the circuit has not count for nothing
-    askCount with035 1 [] 1 tells answered (2 ∷ 2 ∷ 1 ∷ 0 ∷ 0 ∷ 0 ∷ 0 ∷ []) ∷
-    askCount with035 1 [] 2 tells answered (0 ∷ 0 ∷ 1 ∷ 0 ∷ 0 ∷ 0 ∷ 0 ∷ []) ∷
+    countTells with035 1 [] 1 tells answered (2 ∷ 2 ∷ 1 ∷ 0 ∷ 0 ∷ 0 ∷ 0 ∷ []) ∷
+    countTells with035 1 [] 2 tells answered (0 ∷ 0 ∷ 1 ∷ 0 ∷ 0 ∷ 0 ∷ 0 ∷ []) ∷
     -- counting, rule 9
-    askCount with3 3 sampleWords 0 tells refused 9 1 ∷
-    askCount with3 3 sampleWords 5 tells refused 9 1 ∷
-    askCount with3 0 [] 2 tells refused 3 0 ∷
-    askCount with3 32 [] 2 tells answered (0 ∷ 0 ∷ 1 ∷ 0 ∷ 0 ∷ 0 ∷ 0 ∷ []) ∷
-    askCount with3 33 [] 2 tells refused 3 0 ∷
+    countTells with3 3 sampleWords 0 tells refused 9 1 ∷
+    countTells with3 3 sampleWords 5 tells refused 9 1 ∷
+    countTells with3 0 [] 2 tells refused 3 0 ∷
+    countTells with3 32 [] 2 tells answered (0 ∷ 0 ∷ 1 ∷ 0 ∷ 0 ∷ 0 ∷ 0 ∷ []) ∷
+    countTells with3 33 [] 2 tells refused 3 0 ∷
     -- one vector, rules 3, 5, 7 and 8; a refusal gives the same coverage back
-    askWithVector 3 sampleWords 7 tells answered [] ∷
-    askWithVector 3 sampleWords 8 tells refused 8 1 ∷
-    askWithVector 0 [] 0 tells refused 3 0 ∷
-    askWithVector 1 [] 0 tells answered [] ∷
-    askWithVector 32 [] 4294967295 tells answered [] ∷
-    askWithVector 33 [] 0 tells refused 3 0 ∷
-    askWithVector 3 (3 ∷ 0 ∷ 2 ∷ 1 ∷ 1 ∷ 1 ∷ []) 0 tells refused 7 2 ∷
-    take 4 (afterWithVector with3 3 sampleWords 8 .«stuck_at_0») gives (3 ∷ 7 ∷ 5 ∷ 0 ∷ []) ∷
-    take 4 (afterWithVector with3 3 sampleWords 4 .«stuck_at_0») gives (7 ∷ 7 ∷ 5 ∷ 0 ∷ []) ∷ []
+    withVectorTells 3 sampleWords 7 tells answered [] ∷
+    withVectorTells 3 sampleWords 8 tells refused 8 1 ∷
+    withVectorTells 0 [] 0 tells refused 3 0 ∷
+    withVectorTells 1 [] 0 tells answered [] ∷
+    withVectorTells 32 [] 4294967295 tells answered [] ∷
+    withVectorTells 33 [] 0 tells refused 3 0 ∷
+    withVectorTells 3 (3 ∷ 0 ∷ 2 ∷ 1 ∷ 1 ∷ 1 ∷ []) 0 tells refused 7 2 ∷
+    take 4 (withVectorGives with3 3 sampleWords 8 .«stuck_at_0») gives (3 ∷ 7 ∷ 5 ∷ 0 ∷ []) ∷
+    take 4 (withVectorGives with3 3 sampleWords 4 .«stuck_at_0») gives (7 ∷ 7 ∷ 5 ∷ 0 ∷ []) ∷ []

@@ -1,5 +1,4 @@
 pub mod Rows
-pub mod Calls
 pub mod Answers
 pub mod Circuit
 pub mod Faults

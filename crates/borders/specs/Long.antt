@@ -11,8 +11,14 @@ use Rattle.testsets.specs.Rules.{backwardRows, compactRows}
 use Rattle.job.specs.Rules.{headerRows}
 use Rattle.borders.specs.Rows.{Row}
 use Rattle.borders.specs.Rows.Row.{_tells_, _gives_}
-use Rattle.borders.specs.Calls.{fault, askForward, askBackward, askFaultyRun, askCatches, askMultiple, askTest, askJudge, askWithVector}
-use Rattle.borders.specs.Calls.{askCount, askDrop, askDropRecords, askBackwardSet, askCompactSet, askWrite, afterWrite}
+use Rattle.circuit.specs.Promises.{forwardTells, backwardTells}
+use Rattle.simulator.specs.Promises.{outputTells, catchesTells, catchesMultipleTells, testForTells}
+use Rattle.judge.specs.Promises.{judgeTells, withVectorTells}
+use Rattle.borders.specs.Rows.{fault}
+use Rattle.judge.specs.Promises.{countTells}
+use Rattle.dropping.specs.Promises.{dropTells, dropRecordsTells}
+use Rattle.testsets.specs.Promises.{backwardSetTells, compactSetTells}
+use Rattle.job.specs.Promises.{writeTells, writeLeaves}
 use Rattle.borders.specs.Images.{headerOf}
 use Rattle.borders.specs.Orders.{many, bad, manyBad, known, unknown}
 
@@ -34,50 +40,50 @@ readHeader bytes = firstOf (headerRows bytes) (answered [])
 unfoldable pub longTable : List Row
 longTable =
     -- rule 5: 1,024 gates are taken
-    askForward 1 most 0 0 tells answered (0 ∷ []) ∷
-    askForward 1 most 1023 0 tells answered (1 ∷ []) ∷
-    askForward 1 most 1024 0 tells answered (0 ∷ []) ∷
-    askForward 1 most 1025 0 tells refused 12 0 ∷
-    askBackward 1 most 1023 0 tells answered (1 ∷ []) ∷
-    askBackward 1 most 1024 0 tells answered (0 ∷ []) ∷
-    askFaultyRun 1 most 0 (fault 1 1024 0 1) tells answered (1 ∷ []) ∷
-    askCatches 1 most 0 (fault 2 1024 0 0) tells answered (1 ∷ []) ∷
-    askCatches 1 most 0 (fault 2 1025 0 0) tells refused 9 1 ∷
-    askTest 1 most (fault 1 1024 0 0) tells answered (1 ∷ []) ∷
-    askMultiple 1 most 0 (1 ∷ 1024 ∷ 0 ∷ 1 ∷ []) tells answered (1 ∷ []) ∷
-    askJudge 1 most [] 4 tells answered (0 ∷ 0 ∷ 1 ∷ 0 ∷ 0 ∷ 0 ∷ 0 ∷ []) ∷
-    askWithVector 1 most 0 tells answered [] ∷
-    askCount emptyCoverage 1 most 4 tells answered (0 ∷ 0 ∷ 1 ∷ 0 ∷ 0 ∷ 0 ∷ 0 ∷ []) ∷
-    askDrop 1 most 0 (2 ∷ 1024 ∷ 0 ∷ 0 ∷ []) tells answered (0 ∷ []) ∷
-    askDropRecords 1 most 0 (fault 2 1024 0 0 ∷ []) tells answered (0 ∷ []) ∷
+    forwardTells 1 most 0 0 tells answered (0 ∷ []) ∷
+    forwardTells 1 most 1023 0 tells answered (1 ∷ []) ∷
+    forwardTells 1 most 1024 0 tells answered (0 ∷ []) ∷
+    forwardTells 1 most 1025 0 tells refused 12 0 ∷
+    backwardTells 1 most 1023 0 tells answered (1 ∷ []) ∷
+    backwardTells 1 most 1024 0 tells answered (0 ∷ []) ∷
+    outputTells 1 most 0 (fault 1 1024 0 1) tells answered (1 ∷ []) ∷
+    catchesTells 1 most 0 (fault 2 1024 0 0) tells answered (1 ∷ []) ∷
+    catchesTells 1 most 0 (fault 2 1025 0 0) tells refused 9 1 ∷
+    testForTells 1 most (fault 1 1024 0 0) tells answered (1 ∷ []) ∷
+    catchesMultipleTells 1 most 0 (1 ∷ 1024 ∷ 0 ∷ 1 ∷ []) tells answered (1 ∷ []) ∷
+    judgeTells 1 most [] 4 tells answered (0 ∷ 0 ∷ 1 ∷ 0 ∷ 0 ∷ 0 ∷ 0 ∷ []) ∷
+    withVectorTells 1 most 0 tells answered [] ∷
+    countTells emptyCoverage 1 most 4 tells answered (0 ∷ 0 ∷ 1 ∷ 0 ∷ 0 ∷ 0 ∷ 0 ∷ []) ∷
+    dropTells 1 most 0 (2 ∷ 1024 ∷ 0 ∷ 0 ∷ []) tells answered (0 ∷ []) ∷
+    dropRecordsTells 1 most 0 (fault 2 1024 0 0 ∷ []) tells answered (0 ∷ []) ∷
     firstOf (backwardRows 1 most 1025) (answered []) tells refused 10 0 ∷
     firstOf (backwardRows 1 most 1026) (answered []) tells answered [] ∷
     -- S = 12 * 1,025 = 12,300
     firstOf (compactRows 12 most 14) (answered []) tells refused 10 0 ∷
     firstOf (compactRows 12 most 15) (answered []) tells answered [] ∷
     -- 1,025 gates are not
-    askForward 1 (replicate 3075 0) 0 0 tells refused 5 0 ∷
-    askBackward 1 (replicate 3075 0) 0 0 tells refused 5 0 ∷
-    askFaultyRun 1 (replicate 3075 0) 0 (fault 1 0 0 1) tells refused 5 0 ∷
-    askCatches 1 (replicate 3075 0) 0 (fault 1 0 0 1) tells refused 5 0 ∷
-    askTest 1 (replicate 3075 0) (fault 1 0 0 1) tells refused 5 0 ∷
-    askMultiple 1 (replicate 3075 0) 0 (1 ∷ 0 ∷ 0 ∷ 1 ∷ []) tells refused 5 0 ∷
-    askJudge 1 (replicate 3075 0) [] 4 tells refused 5 0 ∷
-    askWithVector 1 (replicate 3075 0) 0 tells refused 5 0 ∷
-    askCount emptyCoverage 1 (replicate 3075 0) 4 tells refused 5 0 ∷
-    askDrop 1 (replicate 3075 0) 0 [] tells refused 5 0 ∷
-    askDropRecords 1 (replicate 3075 0) 0 [] tells refused 5 0 ∷
-    askBackwardSet 1 (replicate 3075 0) (replicate 1027 9) tells refused 5 0 ∷
-    askCompactSet 1 (replicate 3075 0) (replicate 12 9) tells refused 5 0 ∷
+    forwardTells 1 (replicate 3075 0) 0 0 tells refused 5 0 ∷
+    backwardTells 1 (replicate 3075 0) 0 0 tells refused 5 0 ∷
+    outputTells 1 (replicate 3075 0) 0 (fault 1 0 0 1) tells refused 5 0 ∷
+    catchesTells 1 (replicate 3075 0) 0 (fault 1 0 0 1) tells refused 5 0 ∷
+    testForTells 1 (replicate 3075 0) (fault 1 0 0 1) tells refused 5 0 ∷
+    catchesMultipleTells 1 (replicate 3075 0) 0 (1 ∷ 0 ∷ 0 ∷ 1 ∷ []) tells refused 5 0 ∷
+    judgeTells 1 (replicate 3075 0) [] 4 tells refused 5 0 ∷
+    withVectorTells 1 (replicate 3075 0) 0 tells refused 5 0 ∷
+    countTells emptyCoverage 1 (replicate 3075 0) 4 tells refused 5 0 ∷
+    dropTells 1 (replicate 3075 0) 0 [] tells refused 5 0 ∷
+    dropRecordsTells 1 (replicate 3075 0) 0 [] tells refused 5 0 ∷
+    backwardSetTells 1 (replicate 3075 0) (replicate 1027 9) tells refused 5 0 ∷
+    compactSetTells 1 (replicate 3075 0) (replicate 12 9) tells refused 5 0 ∷
     -- it counts whole gates, and words left over are one more bad gate
-    askForward 1 (replicate 3073 0) 0 0 tells refused 7 1025 ∷
-    askForward 1 (replicate 3074 0) 0 0 tells refused 7 1025 ∷
-    askForward 1 (replicate 3076 0) 0 0 tells refused 5 0 ∷
-    askWrite 1 1 (replicate 3073 0) [] (replicate 12320 9) tells refused 7 1025 ∷
+    forwardTells 1 (replicate 3073 0) 0 0 tells refused 7 1025 ∷
+    forwardTells 1 (replicate 3074 0) 0 0 tells refused 7 1025 ∷
+    forwardTells 1 (replicate 3076 0) 0 0 tells refused 5 0 ∷
+    writeTells 1 1 (replicate 3073 0) [] (replicate 12320 9) tells refused 7 1025 ∷
     -- 0 to 2,048 vectors, which may repeat
-    askJudge 1 [] (replicate 2048 0) 1 tells answered (1 ∷ 2 ∷ 0 ∷ 1 ∷ 0 ∷ 0 ∷ 0 ∷ []) ∷
-    askJudge 1 [] (replicate 2049 0) 1 tells refused 5 0 ∷
-    askJudge 1 [] (replicate 2047 0 ++ (2 ∷ [])) 1 tells refused 8 2048 ∷
+    judgeTells 1 [] (replicate 2048 0) 1 tells answered (1 ∷ 2 ∷ 0 ∷ 1 ∷ 0 ∷ 0 ∷ 0 ∷ []) ∷
+    judgeTells 1 [] (replicate 2049 0) 1 tells refused 5 0 ∷
+    judgeTells 1 [] (replicate 2047 0 ++ (2 ∷ [])) 1 tells refused 8 2048 ∷
     -- both in a job's header: gates in bytes 8 and 9, vectors in 12 and 13
     readHeader (headerOf 0 4 0 0 28 48 28 48 ++ replicate 12288 0) tells answered [] ∷
     readHeader (headerOf 1 4 0 0 40 48 40 48 ++ replicate 12300 0) tells refused 5 0 ∷
@@ -85,54 +91,54 @@ longTable =
     readHeader (headerOf 0 0 1 8 28 0 32 32 ++ replicate 8196 0) tells refused 5 0 ∷
     readHeader (headerOf 0 4 0 8 28 48 28 80 ++ replicate 20480 0) tells answered [] ∷
     -- and in a job written, the longest of which has 20,508 bytes
-    askWrite 1 1 most (replicate 2048 0) (replicate 20507 9) tells refused 10 0 ∷
-    askWrite 1 1 most (replicate 2048 0) (replicate 20508 9) tells answered (20508 ∷ []) ∷
-    take 28 (afterWrite 1 1 most (replicate 2048 0) (replicate 20508 9)) gives headerOf 0 4 0 8 28 48 28 80 ∷
-    askWrite 1 1 (replicate 3075 0) (replicate 2048 0) (replicate 20520 9) tells refused 5 0 ∷
-    askWrite 1 1 most (replicate 2049 0) (replicate 20512 9) tells refused 5 0 ∷
+    writeTells 1 1 most (replicate 2048 0) (replicate 20507 9) tells refused 10 0 ∷
+    writeTells 1 1 most (replicate 2048 0) (replicate 20508 9) tells answered (20508 ∷ []) ∷
+    take 28 (writeLeaves 1 1 most (replicate 2048 0) (replicate 20508 9)) gives headerOf 0 4 0 8 28 48 28 80 ∷
+    writeTells 1 1 (replicate 3075 0) (replicate 2048 0) (replicate 20520 9) tells refused 5 0 ∷
+    writeTells 1 1 most (replicate 2049 0) (replicate 20512 9) tells refused 5 0 ∷
     -- rule 13: at most 256 entries; rule 9 comes before it also past the 256th
-    askMultiple 32 eightGates 0 entries256 tells answered (1 ∷ []) ∷
-    askMultiple 32 eightGates 0 (entries256 ++ (1 ∷ 8 ∷ 0 ∷ 1 ∷ [])) tells refused 13 0 ∷
-    askMultiple 32 eightGates 0 (entries256 ++ (1 ∷ 9 ∷ 0 ∷ 1 ∷ [])) tells refused 9 257 ∷
-    askMultiple 32 eightGates 0 (entries256 ++ (1 ∷ 8 ∷ 0 ∷ [])) tells refused 9 257 ∷ []
+    catchesMultipleTells 32 eightGates 0 entries256 tells answered (1 ∷ []) ∷
+    catchesMultipleTells 32 eightGates 0 (entries256 ++ (1 ∷ 8 ∷ 0 ∷ 1 ∷ [])) tells refused 13 0 ∷
+    catchesMultipleTells 32 eightGates 0 (entries256 ++ (1 ∷ 9 ∷ 0 ∷ 1 ∷ [])) tells refused 9 257 ∷
+    catchesMultipleTells 32 eightGates 0 (entries256 ++ (1 ∷ 8 ∷ 0 ∷ [])) tells refused 9 257 ∷ []
 
 unfoldable pub longOrderTable : List Row
 longOrderTable =
     -- 5 before 7, 8 and 12
-    askForward 3 manyBad 0 0 tells refused 5 0 ∷
-    askForward 3 many 0 8 tells refused 5 0 ∷
-    askForward 3 many 1026 0 tells refused 5 0 ∷
+    forwardTells 3 manyBad 0 0 tells refused 5 0 ∷
+    forwardTells 3 many 0 8 tells refused 5 0 ∷
+    forwardTells 3 many 1026 0 tells refused 5 0 ∷
     -- before 7, 8 and 9
-    askCatches 3 manyBad 0 known tells refused 5 0 ∷
-    askCatches 3 many 8 known tells refused 5 0 ∷
-    askCatches 3 many 0 unknown tells refused 5 0 ∷
-    askTest 3 manyBad known tells refused 5 0 ∷
-    askTest 3 many unknown tells refused 5 0 ∷
+    catchesTells 3 manyBad 0 known tells refused 5 0 ∷
+    catchesTells 3 many 8 known tells refused 5 0 ∷
+    catchesTells 3 many 0 unknown tells refused 5 0 ∷
+    testForTells 3 manyBad known tells refused 5 0 ∷
+    testForTells 3 many unknown tells refused 5 0 ∷
     -- before 7, 8, 9 and 13
-    askMultiple 3 manyBad 0 (1 ∷ 0 ∷ 0 ∷ 0 ∷ []) tells refused 5 0 ∷
-    askMultiple 3 many 8 (1 ∷ 0 ∷ 0 ∷ 0 ∷ []) tells refused 5 0 ∷
-    askMultiple 3 many 0 (5 ∷ 0 ∷ 0 ∷ 0 ∷ []) tells refused 5 0 ∷
-    askMultiple 3 many 0 [] tells refused 5 0 ∷
+    catchesMultipleTells 3 manyBad 0 (1 ∷ 0 ∷ 0 ∷ 0 ∷ []) tells refused 5 0 ∷
+    catchesMultipleTells 3 many 8 (1 ∷ 0 ∷ 0 ∷ 0 ∷ []) tells refused 5 0 ∷
+    catchesMultipleTells 3 many 0 (5 ∷ 0 ∷ 0 ∷ 0 ∷ []) tells refused 5 0 ∷
+    catchesMultipleTells 3 many 0 [] tells refused 5 0 ∷
     -- before 7, 8 and 9, by its gates and by its vectors
-    askJudge 3 manyBad [] 1 tells refused 5 0 ∷
-    askJudge 3 bad (replicate 2049 0) 1 tells refused 5 0 ∷
-    askJudge 3 many (8 ∷ []) 1 tells refused 5 0 ∷
-    askJudge 3 [] (replicate 2049 8) 1 tells refused 5 0 ∷
-    askJudge 3 many [] 5 tells refused 5 0 ∷
-    askJudge 3 [] (replicate 2049 0) 5 tells refused 5 0 ∷
-    askWithVector 3 manyBad 0 tells refused 5 0 ∷
-    askWithVector 3 many 8 tells refused 5 0 ∷
-    askCount emptyCoverage 3 manyBad 1 tells refused 5 0 ∷
-    askCount emptyCoverage 3 many 5 tells refused 5 0 ∷
-    askDrop 3 manyBad 0 [] tells refused 5 0 ∷
-    askDrop 3 many 8 [] tells refused 5 0 ∷
-    askDrop 3 many 0 (0 ∷ 0 ∷ 0 ∷ 0 ∷ []) tells refused 5 0 ∷
-    askDropRecords 3 manyBad 0 [] tells refused 5 0 ∷
-    askDropRecords 3 many 8 [] tells refused 5 0 ∷
-    askDropRecords 3 many 0 (unknown ∷ []) tells refused 5 0 ∷
+    judgeTells 3 manyBad [] 1 tells refused 5 0 ∷
+    judgeTells 3 bad (replicate 2049 0) 1 tells refused 5 0 ∷
+    judgeTells 3 many (8 ∷ []) 1 tells refused 5 0 ∷
+    judgeTells 3 [] (replicate 2049 8) 1 tells refused 5 0 ∷
+    judgeTells 3 many [] 5 tells refused 5 0 ∷
+    judgeTells 3 [] (replicate 2049 0) 5 tells refused 5 0 ∷
+    withVectorTells 3 manyBad 0 tells refused 5 0 ∷
+    withVectorTells 3 many 8 tells refused 5 0 ∷
+    countTells emptyCoverage 3 manyBad 1 tells refused 5 0 ∷
+    countTells emptyCoverage 3 many 5 tells refused 5 0 ∷
+    dropTells 3 manyBad 0 [] tells refused 5 0 ∷
+    dropTells 3 many 8 [] tells refused 5 0 ∷
+    dropTells 3 many 0 (0 ∷ 0 ∷ 0 ∷ 0 ∷ []) tells refused 5 0 ∷
+    dropRecordsTells 3 manyBad 0 [] tells refused 5 0 ∷
+    dropRecordsTells 3 many 8 [] tells refused 5 0 ∷
+    dropRecordsTells 3 many 0 (unknown ∷ []) tells refused 5 0 ∷
     -- before 7, 11 and 10
-    askBackwardSet 3 manyBad (replicate 1027 9) tells refused 5 0 ∷
-    askBackwardSet 3 many [] tells refused 5 0 ∷
-    askCompactSet 3 manyBad (replicate 20 9) tells refused 5 0 ∷
-    askCompactSet 13 many (replicate 20 9) tells refused 5 0 ∷
-    askCompactSet 3 many [] tells refused 5 0 ∷ []
+    backwardSetTells 3 manyBad (replicate 1027 9) tells refused 5 0 ∷
+    backwardSetTells 3 many [] tells refused 5 0 ∷
+    compactSetTells 3 manyBad (replicate 20 9) tells refused 5 0 ∷
+    compactSetTells 13 many (replicate 20 9) tells refused 5 0 ∷
+    compactSetTells 3 many [] tells refused 5 0 ∷ []

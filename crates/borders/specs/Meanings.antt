@@ -11,7 +11,8 @@ use Rattle.circuit.specs.Gates.{gatesOf}
 use Rattle.proved_samples.specs.Sample.{sampleWords}
 use Rattle.borders.specs.Rows.{Row}
 use Rattle.borders.specs.Rows.Row.{_tells_, _gives_}
-use Rattle.borders.specs.Calls.{fault, askFaultyRun, askTest}
+use Rattle.simulator.specs.Promises.{outputTells, testForTells}
+use Rattle.borders.specs.Rows.{fault}
 
 -- the vectors of 3 lines that catch a fault of the sample circuit
 abbrev pub catching : Fault → List ℕ
@@ -24,15 +25,15 @@ faultsIn n words class = wordsOf (classFaults n (gatesOf words) class)
 unfoldable pub meaningTable : List Row
 meaningTable =
     -- the output with a fault in the circuit; without one, 3 gives 5 and 1 gives 3
-    askFaultyRun 3 sampleWords 3 (fault 1 0 0 0) tells answered (2 ∷ []) ∷
-    askFaultyRun 3 sampleWords 3 (fault 1 1 2 0) tells answered (1 ∷ []) ∷
-    askFaultyRun 3 sampleWords 3 (fault 1 2 1 1) tells answered (7 ∷ []) ∷
-    askFaultyRun 3 sampleWords 3 (fault 2 1 0 0) tells answered (1 ∷ []) ∷
-    askFaultyRun 3 sampleWords 3 (fault 2 2 0 0) tells answered (7 ∷ []) ∷
-    askFaultyRun 3 sampleWords 2 (fault 3 1 0 0) tells answered (6 ∷ []) ∷
-    askFaultyRun 3 sampleWords 1 (fault 3 1 1 0) tells answered (7 ∷ []) ∷
-    askFaultyRun 3 sampleWords 0 (fault 3 2 0 0) tells answered (2 ∷ []) ∷
-    askFaultyRun 3 sampleWords 1 (fault 4 2 2 0) tells answered (1 ∷ []) ∷
+    outputTells 3 sampleWords 3 (fault 1 0 0 0) tells answered (2 ∷ []) ∷
+    outputTells 3 sampleWords 3 (fault 1 1 2 0) tells answered (1 ∷ []) ∷
+    outputTells 3 sampleWords 3 (fault 1 2 1 1) tells answered (7 ∷ []) ∷
+    outputTells 3 sampleWords 3 (fault 2 1 0 0) tells answered (1 ∷ []) ∷
+    outputTells 3 sampleWords 3 (fault 2 2 0 0) tells answered (7 ∷ []) ∷
+    outputTells 3 sampleWords 2 (fault 3 1 0 0) tells answered (6 ∷ []) ∷
+    outputTells 3 sampleWords 1 (fault 3 1 1 0) tells answered (7 ∷ []) ∷
+    outputTells 3 sampleWords 0 (fault 3 2 0 0) tells answered (2 ∷ []) ∷
+    outputTells 3 sampleWords 1 (fault 4 2 2 0) tells answered (1 ∷ []) ∷
     -- the vectors that catch a stuck line
     catching (fault 1 0 0 0) gives (1 ∷ 3 ∷ 5 ∷ 7 ∷ []) ∷
     catching (fault 1 0 0 1) gives (0 ∷ 2 ∷ 4 ∷ 6 ∷ []) ∷
@@ -48,21 +49,21 @@ meaningTable =
     catching (fault 3 2 0 0) gives (0 ∷ 2 ∷ 4 ∷ 6 ∷ []) ∷
     catching (fault 4 2 2 0) gives (1 ∷ 7 ∷ []) ∷
     -- the test of a stuck line: all lines 1 at its level, or the line itself 0 for stuck-at-1, run backward
-    askTest 3 sampleWords (fault 1 0 0 0) tells answered (7 ∷ []) ∷
-    askTest 3 sampleWords (fault 1 0 0 1) tells answered (6 ∷ []) ∷
-    askTest 3 sampleWords (fault 1 0 2 1) tells answered (3 ∷ []) ∷
-    askTest 3 sampleWords (fault 1 1 2 0) tells answered (3 ∷ []) ∷
-    askTest 3 sampleWords (fault 1 1 2 1) tells answered (7 ∷ []) ∷
-    askTest 3 sampleWords (fault 1 2 1 0) tells answered (5 ∷ []) ∷
-    askTest 3 sampleWords (fault 1 2 1 1) tells answered (3 ∷ []) ∷
+    testForTells 3 sampleWords (fault 1 0 0 0) tells answered (7 ∷ []) ∷
+    testForTells 3 sampleWords (fault 1 0 0 1) tells answered (6 ∷ []) ∷
+    testForTells 3 sampleWords (fault 1 0 2 1) tells answered (3 ∷ []) ∷
+    testForTells 3 sampleWords (fault 1 1 2 0) tells answered (3 ∷ []) ∷
+    testForTells 3 sampleWords (fault 1 1 2 1) tells answered (7 ∷ []) ∷
+    testForTells 3 sampleWords (fault 1 2 1 0) tells answered (5 ∷ []) ∷
+    testForTells 3 sampleWords (fault 1 2 1 1) tells answered (3 ∷ []) ∷
     -- of a missing gate: all lines 1 at the level it reads
-    askTest 3 sampleWords (fault 2 1 0 0) tells answered (7 ∷ []) ∷
-    askTest 3 sampleWords (fault 2 2 0 0) tells answered (3 ∷ []) ∷
+    testForTells 3 sampleWords (fault 2 1 0 0) tells answered (7 ∷ []) ∷
+    testForTells 3 sampleWords (fault 2 2 0 0) tells answered (3 ∷ []) ∷
     -- of a missing and of an extra control: the named line 0 there
-    askTest 3 sampleWords (fault 3 1 0 0) tells answered (6 ∷ []) ∷
-    askTest 3 sampleWords (fault 3 1 1 0) tells answered (5 ∷ []) ∷
-    askTest 3 sampleWords (fault 3 2 0 0) tells answered (6 ∷ []) ∷
-    askTest 3 sampleWords (fault 4 2 2 0) tells answered (7 ∷ []) ∷
+    testForTells 3 sampleWords (fault 3 1 0 0) tells answered (6 ∷ []) ∷
+    testForTells 3 sampleWords (fault 3 1 1 0) tells answered (5 ∷ []) ∷
+    testForTells 3 sampleWords (fault 3 2 0 0) tells answered (6 ∷ []) ∷
+    testForTells 3 sampleWords (fault 4 2 2 0) tells answered (7 ∷ []) ∷
     -- class 1: by level, then line, then value 0 before 1
     faultsIn 1 [] 1 gives (1 ∷ 0 ∷ 0 ∷ 0 ∷ 1 ∷ 0 ∷ 0 ∷ 1 ∷ []) ∷
     faultsIn 3 sampleWords 1 gives (

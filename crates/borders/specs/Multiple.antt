@@ -5,51 +5,51 @@ use Rattle.refusals.specs.Places.{inWord}
 use Rattle.proved_samples.specs.Sample.{sampleWords}
 use Rattle.borders.specs.Rows.{Row}
 use Rattle.borders.specs.Rows.Row.{_tells_, _gives_}
-use Rattle.borders.specs.Calls.{askMultiple}
+use Rattle.simulator.specs.Promises.{catchesMultipleTells}
 
 unfoldable pub multipleTable : List Row
 multipleTable =
     -- rule 13: some entry
-    askMultiple 3 sampleWords 0 [] tells refused 13 0 ∷
-    askMultiple 3 sampleWords 0 (1 ∷ 0 ∷ 0 ∷ 1 ∷ []) tells answered (1 ∷ []) ∷
-    askMultiple 3 sampleWords 1 (1 ∷ 0 ∷ 0 ∷ 1 ∷ []) tells answered (0 ∷ []) ∷
+    catchesMultipleTells 3 sampleWords 0 [] tells refused 13 0 ∷
+    catchesMultipleTells 3 sampleWords 0 (1 ∷ 0 ∷ 0 ∷ 1 ∷ []) tells answered (1 ∷ []) ∷
+    catchesMultipleTells 3 sampleWords 1 (1 ∷ 0 ∷ 0 ∷ 1 ∷ []) tells answered (0 ∷ []) ∷
     -- a site twice: the same level and line, whatever the values
-    askMultiple 3 sampleWords 0 (1 ∷ 1 ∷ 2 ∷ 1 ∷ 1 ∷ 1 ∷ 2 ∷ 1 ∷ []) tells refused 13 0 ∷
-    askMultiple 3 sampleWords 0 (1 ∷ 1 ∷ 2 ∷ 0 ∷ 1 ∷ 1 ∷ 2 ∷ 1 ∷ []) tells refused 13 0 ∷
-    askMultiple 3 sampleWords 0 (1 ∷ 1 ∷ 2 ∷ 0 ∷ 1 ∷ 1 ∷ 1 ∷ 0 ∷ 1 ∷ 1 ∷ 2 ∷ 0 ∷ []) tells refused 13 0 ∷
-    askMultiple 3 sampleWords 0 (1 ∷ 1 ∷ 1 ∷ 0 ∷ 1 ∷ 1 ∷ 2 ∷ 0 ∷ 1 ∷ 1 ∷ 2 ∷ 0 ∷ []) tells refused 13 0 ∷
-    askMultiple 3 sampleWords 0 (1 ∷ 1 ∷ 2 ∷ 0 ∷ 1 ∷ 1 ∷ 1 ∷ 0 ∷ []) tells answered (0 ∷ []) ∷
+    catchesMultipleTells 3 sampleWords 0 (1 ∷ 1 ∷ 2 ∷ 1 ∷ 1 ∷ 1 ∷ 2 ∷ 1 ∷ []) tells refused 13 0 ∷
+    catchesMultipleTells 3 sampleWords 0 (1 ∷ 1 ∷ 2 ∷ 0 ∷ 1 ∷ 1 ∷ 2 ∷ 1 ∷ []) tells refused 13 0 ∷
+    catchesMultipleTells 3 sampleWords 0 (1 ∷ 1 ∷ 2 ∷ 0 ∷ 1 ∷ 1 ∷ 1 ∷ 0 ∷ 1 ∷ 1 ∷ 2 ∷ 0 ∷ []) tells refused 13 0 ∷
+    catchesMultipleTells 3 sampleWords 0 (1 ∷ 1 ∷ 1 ∷ 0 ∷ 1 ∷ 1 ∷ 2 ∷ 0 ∷ 1 ∷ 1 ∷ 2 ∷ 0 ∷ []) tells refused 13 0 ∷
+    catchesMultipleTells 3 sampleWords 0 (1 ∷ 1 ∷ 2 ∷ 0 ∷ 1 ∷ 1 ∷ 1 ∷ 0 ∷ []) tells answered (0 ∷ []) ∷
     -- opposite values on one line at two levels are allowed, and the later one may hide the earlier
-    askMultiple 3 sampleWords 0 (1 ∷ 0 ∷ 2 ∷ 1 ∷ 1 ∷ 2 ∷ 2 ∷ 0 ∷ []) tells answered (0 ∷ []) ∷
-    askMultiple 3 sampleWords 0 (1 ∷ 0 ∷ 2 ∷ 0 ∷ 1 ∷ 2 ∷ 2 ∷ 1 ∷ []) tells answered (1 ∷ []) ∷
+    catchesMultipleTells 3 sampleWords 0 (1 ∷ 0 ∷ 2 ∷ 1 ∷ 1 ∷ 2 ∷ 2 ∷ 0 ∷ []) tells answered (0 ∷ []) ∷
+    catchesMultipleTells 3 sampleWords 0 (1 ∷ 0 ∷ 2 ∷ 0 ∷ 1 ∷ 2 ∷ 2 ∷ 1 ∷ []) tells answered (1 ∷ []) ∷
     -- rule 9: class 1 alone, at the place of the first bad entry
-    askMultiple 3 sampleWords 0 (2 ∷ 1 ∷ 0 ∷ 0 ∷ []) tells refused 9 1 ∷
-    askMultiple 3 sampleWords 0 (0 ∷ 0 ∷ 0 ∷ 0 ∷ []) tells refused 9 1 ∷
-    askMultiple 3 sampleWords 0 (1 ∷ 0 ∷ 0 ∷ 1 ∷ 3 ∷ 1 ∷ 0 ∷ 0 ∷ []) tells refused 9 2 ∷
-    askMultiple 3 sampleWords 0 (1 ∷ 0 ∷ 0 ∷ 1 ∷ 4 ∷ 2 ∷ 2 ∷ 0 ∷ 5 ∷ 0 ∷ 0 ∷ 0 ∷ []) tells refused 9 2 ∷
+    catchesMultipleTells 3 sampleWords 0 (2 ∷ 1 ∷ 0 ∷ 0 ∷ []) tells refused 9 1 ∷
+    catchesMultipleTells 3 sampleWords 0 (0 ∷ 0 ∷ 0 ∷ 0 ∷ []) tells refused 9 1 ∷
+    catchesMultipleTells 3 sampleWords 0 (1 ∷ 0 ∷ 0 ∷ 1 ∷ 3 ∷ 1 ∷ 0 ∷ 0 ∷ []) tells refused 9 2 ∷
+    catchesMultipleTells 3 sampleWords 0 (1 ∷ 0 ∷ 0 ∷ 1 ∷ 4 ∷ 2 ∷ 2 ∷ 0 ∷ 5 ∷ 0 ∷ 0 ∷ 0 ∷ []) tells refused 9 2 ∷
     -- levels 0 to d, lines 0 to n-1, values 0 and 1
-    askMultiple 3 sampleWords 0 (1 ∷ 2 ∷ 2 ∷ 1 ∷ []) tells answered (1 ∷ []) ∷
-    askMultiple 3 sampleWords 0 (1 ∷ 3 ∷ 2 ∷ 1 ∷ []) tells refused 9 1 ∷
-    askMultiple 3 sampleWords 0 (1 ∷ 2 ∷ 3 ∷ 1 ∷ []) tells refused 9 1 ∷
-    askMultiple 3 sampleWords 0 (1 ∷ 2 ∷ 2 ∷ 2 ∷ []) tells refused 9 1 ∷
-    askMultiple 3 sampleWords 0 (1 ∷ 2 ∷ 2 ∷ 0 ∷ []) tells answered (0 ∷ []) ∷
+    catchesMultipleTells 3 sampleWords 0 (1 ∷ 2 ∷ 2 ∷ 1 ∷ []) tells answered (1 ∷ []) ∷
+    catchesMultipleTells 3 sampleWords 0 (1 ∷ 3 ∷ 2 ∷ 1 ∷ []) tells refused 9 1 ∷
+    catchesMultipleTells 3 sampleWords 0 (1 ∷ 2 ∷ 3 ∷ 1 ∷ []) tells refused 9 1 ∷
+    catchesMultipleTells 3 sampleWords 0 (1 ∷ 2 ∷ 2 ∷ 2 ∷ []) tells refused 9 1 ∷
+    catchesMultipleTells 3 sampleWords 0 (1 ∷ 2 ∷ 2 ∷ 0 ∷ []) tells answered (0 ∷ []) ∷
     -- words left over are one more bad entry
-    askMultiple 3 sampleWords 0 (1 ∷ []) tells refused 9 1 ∷
-    askMultiple 3 sampleWords 0 (1 ∷ 0 ∷ []) tells refused 9 1 ∷
-    askMultiple 3 sampleWords 0 (1 ∷ 0 ∷ 0 ∷ []) tells refused 9 1 ∷
-    askMultiple 3 sampleWords 0 (1 ∷ 0 ∷ 0 ∷ 1 ∷ 1 ∷ []) tells refused 9 2 ∷
-    askMultiple 3 sampleWords 0 (1 ∷ 0 ∷ 0 ∷ 1 ∷ 1 ∷ 1 ∷ []) tells refused 9 2 ∷
-    askMultiple 3 sampleWords 0 (1 ∷ 0 ∷ 0 ∷ 1 ∷ 1 ∷ 1 ∷ 0 ∷ []) tells refused 9 2 ∷
-    askMultiple 3 sampleWords 0 (1 ∷ 0 ∷ 0 ∷ 2 ∷ 1 ∷ 1 ∷ 0 ∷ []) tells refused 9 1 ∷
+    catchesMultipleTells 3 sampleWords 0 (1 ∷ []) tells refused 9 1 ∷
+    catchesMultipleTells 3 sampleWords 0 (1 ∷ 0 ∷ []) tells refused 9 1 ∷
+    catchesMultipleTells 3 sampleWords 0 (1 ∷ 0 ∷ 0 ∷ []) tells refused 9 1 ∷
+    catchesMultipleTells 3 sampleWords 0 (1 ∷ 0 ∷ 0 ∷ 1 ∷ 1 ∷ []) tells refused 9 2 ∷
+    catchesMultipleTells 3 sampleWords 0 (1 ∷ 0 ∷ 0 ∷ 1 ∷ 1 ∷ 1 ∷ []) tells refused 9 2 ∷
+    catchesMultipleTells 3 sampleWords 0 (1 ∷ 0 ∷ 0 ∷ 1 ∷ 1 ∷ 1 ∷ 0 ∷ []) tells refused 9 2 ∷
+    catchesMultipleTells 3 sampleWords 0 (1 ∷ 0 ∷ 0 ∷ 2 ∷ 1 ∷ 1 ∷ 0 ∷ []) tells refused 9 1 ∷
     -- 9 before 13
-    askMultiple 3 sampleWords 0 (1 ∷ 0 ∷ 0 ∷ 1 ∷ 1 ∷ 0 ∷ 0 ∷ 1 ∷ 2 ∷ 1 ∷ 0 ∷ 0 ∷ []) tells refused 9 3 ∷
-    askMultiple 3 sampleWords 0 (1 ∷ 0 ∷ 0 ∷ 1 ∷ 1 ∷ 0 ∷ 0 ∷ 1 ∷ 1 ∷ []) tells refused 9 3 ∷
+    catchesMultipleTells 3 sampleWords 0 (1 ∷ 0 ∷ 0 ∷ 1 ∷ 1 ∷ 0 ∷ 0 ∷ 1 ∷ 2 ∷ 1 ∷ 0 ∷ 0 ∷ []) tells refused 9 3 ∷
+    catchesMultipleTells 3 sampleWords 0 (1 ∷ 0 ∷ 0 ∷ 1 ∷ 1 ∷ 0 ∷ 0 ∷ 1 ∷ 1 ∷ []) tells refused 9 3 ∷
     -- rule 8, a vector alone; rule 3
-    askMultiple 3 sampleWords 7 (1 ∷ 0 ∷ 0 ∷ 1 ∷ []) tells answered (0 ∷ []) ∷
-    askMultiple 3 sampleWords 8 (1 ∷ 0 ∷ 0 ∷ 1 ∷ []) tells refused 8 1 ∷
-    askMultiple 0 [] 0 (1 ∷ 0 ∷ 0 ∷ 1 ∷ []) tells refused 3 0 ∷
-    askMultiple 1 [] 0 (1 ∷ 0 ∷ 0 ∷ 1 ∷ []) tells answered (1 ∷ []) ∷
-    askMultiple 32 [] 0 (1 ∷ 0 ∷ 31 ∷ 1 ∷ []) tells answered (1 ∷ []) ∷
-    askMultiple 33 [] 0 (1 ∷ 0 ∷ 0 ∷ 1 ∷ []) tells refused 3 0 ∷
+    catchesMultipleTells 3 sampleWords 7 (1 ∷ 0 ∷ 0 ∷ 1 ∷ []) tells answered (0 ∷ []) ∷
+    catchesMultipleTells 3 sampleWords 8 (1 ∷ 0 ∷ 0 ∷ 1 ∷ []) tells refused 8 1 ∷
+    catchesMultipleTells 0 [] 0 (1 ∷ 0 ∷ 0 ∷ 1 ∷ []) tells refused 3 0 ∷
+    catchesMultipleTells 1 [] 0 (1 ∷ 0 ∷ 0 ∷ 1 ∷ []) tells answered (1 ∷ []) ∷
+    catchesMultipleTells 32 [] 0 (1 ∷ 0 ∷ 31 ∷ 1 ∷ []) tells answered (1 ∷ []) ∷
+    catchesMultipleTells 33 [] 0 (1 ∷ 0 ∷ 0 ∷ 1 ∷ []) tells refused 3 0 ∷
     -- a place or a number that no word holds is told as the largest word
     (inWord 0 ∷ inWord 4294967295 ∷ inWord 4294967296 ∷ []) gives (0 ∷ 4294967295 ∷ 4294967295 ∷ []) ∷ []

@@ -8,8 +8,12 @@ use Rattle.faults.specs.declared.Fault.{Fault}
 use Rattle.judge.specs.Coverages.{emptyCoverage}
 use Rattle.borders.specs.Rows.{Row}
 use Rattle.borders.specs.Rows.Row.{_tells_}
-use Rattle.borders.specs.Calls.{fault, askForward, askCatches, askMultiple, askTest, askJudge, askWithVector, askCount}
-use Rattle.borders.specs.Calls.{askDrop, askDropRecords, askBackwardSet, askCompactSet}
+use Rattle.circuit.specs.Promises.{forwardTells}
+use Rattle.simulator.specs.Promises.{catchesTells, catchesMultipleTells, testForTells}
+use Rattle.judge.specs.Promises.{judgeTells, withVectorTells, countTells}
+use Rattle.borders.specs.Rows.{fault}
+use Rattle.dropping.specs.Promises.{dropTells, dropRecordsTells}
+use Rattle.testsets.specs.Promises.{backwardSetTells, compactSetTells}
 
 -- rule 3 is broken by 33 lines, or by none where a state of 1 is to be too large; the others by these
 
@@ -34,83 +38,83 @@ unknown = fault 5 0 0 0
 unfoldable pub orderTable : List Row
 orderTable =
     -- a run: 3 5 7 8 12
-    askForward 33 many 0 0 tells refused 3 0 ∷
-    askForward 33 bad 0 0 tells refused 3 0 ∷
-    askForward 0 [] 0 1 tells refused 3 0 ∷
-    askForward 33 [] 1 0 tells refused 3 0 ∷
-    askForward 3 bad 0 8 tells refused 7 1 ∷
-    askForward 3 bad 2 0 tells refused 7 1 ∷
-    askForward 3 [] 1 8 tells refused 8 1 ∷
+    forwardTells 33 many 0 0 tells refused 3 0 ∷
+    forwardTells 33 bad 0 0 tells refused 3 0 ∷
+    forwardTells 0 [] 0 1 tells refused 3 0 ∷
+    forwardTells 33 [] 1 0 tells refused 3 0 ∷
+    forwardTells 3 bad 0 8 tells refused 7 1 ∷
+    forwardTells 3 bad 2 0 tells refused 7 1 ∷
+    forwardTells 3 [] 1 8 tells refused 8 1 ∷
     -- a vector and a fault: 3 5 7 8 9
-    askCatches 33 many 0 known tells refused 3 0 ∷
-    askCatches 33 bad 0 known tells refused 3 0 ∷
-    askCatches 0 [] 1 known tells refused 3 0 ∷
-    askCatches 33 [] 0 unknown tells refused 3 0 ∷
-    askCatches 3 bad 8 known tells refused 7 1 ∷
-    askCatches 3 bad 0 unknown tells refused 7 1 ∷
-    askCatches 3 [] 8 unknown tells refused 8 1 ∷
+    catchesTells 33 many 0 known tells refused 3 0 ∷
+    catchesTells 33 bad 0 known tells refused 3 0 ∷
+    catchesTells 0 [] 1 known tells refused 3 0 ∷
+    catchesTells 33 [] 0 unknown tells refused 3 0 ∷
+    catchesTells 3 bad 8 known tells refused 7 1 ∷
+    catchesTells 3 bad 0 unknown tells refused 7 1 ∷
+    catchesTells 3 [] 8 unknown tells refused 8 1 ∷
     -- the test for a fault: 3 5 7 9
-    askTest 33 many known tells refused 3 0 ∷
-    askTest 33 bad known tells refused 3 0 ∷
-    askTest 33 [] unknown tells refused 3 0 ∷
-    askTest 3 bad unknown tells refused 7 1 ∷
+    testForTells 33 many known tells refused 3 0 ∷
+    testForTells 33 bad known tells refused 3 0 ∷
+    testForTells 33 [] unknown tells refused 3 0 ∷
+    testForTells 3 bad unknown tells refused 7 1 ∷
     -- a multiple fault: 3 5 7 8 9 13
-    askMultiple 33 many 0 (1 ∷ 0 ∷ 0 ∷ 0 ∷ []) tells refused 3 0 ∷
-    askMultiple 33 bad 0 (1 ∷ 0 ∷ 0 ∷ 0 ∷ []) tells refused 3 0 ∷
-    askMultiple 0 [] 1 (1 ∷ 0 ∷ 0 ∷ 0 ∷ []) tells refused 3 0 ∷
-    askMultiple 33 [] 0 (5 ∷ 0 ∷ 0 ∷ 0 ∷ []) tells refused 3 0 ∷
-    askMultiple 33 [] 0 [] tells refused 3 0 ∷
-    askMultiple 3 bad 8 (1 ∷ 0 ∷ 0 ∷ 0 ∷ []) tells refused 7 1 ∷
-    askMultiple 3 bad 0 (5 ∷ 0 ∷ 0 ∷ 0 ∷ []) tells refused 7 1 ∷
-    askMultiple 3 bad 0 [] tells refused 7 1 ∷
-    askMultiple 3 [] 8 (5 ∷ 0 ∷ 0 ∷ 0 ∷ []) tells refused 8 1 ∷
-    askMultiple 3 [] 8 [] tells refused 8 1 ∷
-    askMultiple 3 [] 0 (1 ∷ 0 ∷ 0 ∷ 0 ∷ 1 ∷ 0 ∷ 0 ∷ 0 ∷ 5 ∷ 0 ∷ 0 ∷ 0 ∷ []) tells refused 9 3 ∷
+    catchesMultipleTells 33 many 0 (1 ∷ 0 ∷ 0 ∷ 0 ∷ []) tells refused 3 0 ∷
+    catchesMultipleTells 33 bad 0 (1 ∷ 0 ∷ 0 ∷ 0 ∷ []) tells refused 3 0 ∷
+    catchesMultipleTells 0 [] 1 (1 ∷ 0 ∷ 0 ∷ 0 ∷ []) tells refused 3 0 ∷
+    catchesMultipleTells 33 [] 0 (5 ∷ 0 ∷ 0 ∷ 0 ∷ []) tells refused 3 0 ∷
+    catchesMultipleTells 33 [] 0 [] tells refused 3 0 ∷
+    catchesMultipleTells 3 bad 8 (1 ∷ 0 ∷ 0 ∷ 0 ∷ []) tells refused 7 1 ∷
+    catchesMultipleTells 3 bad 0 (5 ∷ 0 ∷ 0 ∷ 0 ∷ []) tells refused 7 1 ∷
+    catchesMultipleTells 3 bad 0 [] tells refused 7 1 ∷
+    catchesMultipleTells 3 [] 8 (5 ∷ 0 ∷ 0 ∷ 0 ∷ []) tells refused 8 1 ∷
+    catchesMultipleTells 3 [] 8 [] tells refused 8 1 ∷
+    catchesMultipleTells 3 [] 0 (1 ∷ 0 ∷ 0 ∷ 0 ∷ 1 ∷ 0 ∷ 0 ∷ 0 ∷ 5 ∷ 0 ∷ 0 ∷ 0 ∷ []) tells refused 9 3 ∷
     -- a set and a class: 3 5 7 8 9
-    askJudge 33 many [] 1 tells refused 3 0 ∷
-    askJudge 33 [] (replicate 2049 0) 1 tells refused 3 0 ∷
-    askJudge 33 bad [] 1 tells refused 3 0 ∷
-    askJudge 0 [] (1 ∷ []) 1 tells refused 3 0 ∷
-    askJudge 33 [] [] 5 tells refused 3 0 ∷
-    askJudge 3 bad (8 ∷ []) 1 tells refused 7 1 ∷
-    askJudge 3 bad [] 5 tells refused 7 1 ∷
-    askJudge 3 [] (8 ∷ []) 5 tells refused 8 1 ∷
+    judgeTells 33 many [] 1 tells refused 3 0 ∷
+    judgeTells 33 [] (replicate 2049 0) 1 tells refused 3 0 ∷
+    judgeTells 33 bad [] 1 tells refused 3 0 ∷
+    judgeTells 0 [] (1 ∷ []) 1 tells refused 3 0 ∷
+    judgeTells 33 [] [] 5 tells refused 3 0 ∷
+    judgeTells 3 bad (8 ∷ []) 1 tells refused 7 1 ∷
+    judgeTells 3 bad [] 5 tells refused 7 1 ∷
+    judgeTells 3 [] (8 ∷ []) 5 tells refused 8 1 ∷
     -- a coverage and a vector: 3 5 7 8
-    askWithVector 33 many 0 tells refused 3 0 ∷
-    askWithVector 33 bad 0 tells refused 3 0 ∷
-    askWithVector 0 [] 1 tells refused 3 0 ∷
-    askWithVector 3 bad 8 tells refused 7 1 ∷
+    withVectorTells 33 many 0 tells refused 3 0 ∷
+    withVectorTells 33 bad 0 tells refused 3 0 ∷
+    withVectorTells 0 [] 1 tells refused 3 0 ∷
+    withVectorTells 3 bad 8 tells refused 7 1 ∷
     -- a coverage and a class: 3 5 7 9
-    askCount emptyCoverage 33 many 1 tells refused 3 0 ∷
-    askCount emptyCoverage 33 bad 1 tells refused 3 0 ∷
-    askCount emptyCoverage 33 [] 5 tells refused 3 0 ∷
-    askCount emptyCoverage 3 bad 5 tells refused 7 1 ∷
+    countTells emptyCoverage 33 many 1 tells refused 3 0 ∷
+    countTells emptyCoverage 33 bad 1 tells refused 3 0 ∷
+    countTells emptyCoverage 33 [] 5 tells refused 3 0 ∷
+    countTells emptyCoverage 3 bad 5 tells refused 7 1 ∷
     -- a plain list: 3 5 7 8 9
-    askDrop 33 many 0 [] tells refused 3 0 ∷
-    askDrop 33 bad 0 [] tells refused 3 0 ∷
-    askDrop 0 [] 1 [] tells refused 3 0 ∷
-    askDrop 33 [] 0 (0 ∷ 0 ∷ 0 ∷ 0 ∷ []) tells refused 3 0 ∷
-    askDrop 3 bad 8 [] tells refused 7 1 ∷
-    askDrop 3 bad 0 (0 ∷ 0 ∷ 0 ∷ 0 ∷ []) tells refused 7 1 ∷
-    askDrop 3 [] 8 (0 ∷ 0 ∷ 0 ∷ 0 ∷ []) tells refused 8 1 ∷
+    dropTells 33 many 0 [] tells refused 3 0 ∷
+    dropTells 33 bad 0 [] tells refused 3 0 ∷
+    dropTells 0 [] 1 [] tells refused 3 0 ∷
+    dropTells 33 [] 0 (0 ∷ 0 ∷ 0 ∷ 0 ∷ []) tells refused 3 0 ∷
+    dropTells 3 bad 8 [] tells refused 7 1 ∷
+    dropTells 3 bad 0 (0 ∷ 0 ∷ 0 ∷ 0 ∷ []) tells refused 7 1 ∷
+    dropTells 3 [] 8 (0 ∷ 0 ∷ 0 ∷ 0 ∷ []) tells refused 8 1 ∷
     -- a slice of records: 3 5 7 8 9
-    askDropRecords 33 many 0 [] tells refused 3 0 ∷
-    askDropRecords 33 bad 0 [] tells refused 3 0 ∷
-    askDropRecords 0 [] 1 [] tells refused 3 0 ∷
-    askDropRecords 33 [] 0 (unknown ∷ []) tells refused 3 0 ∷
-    askDropRecords 3 bad 8 [] tells refused 7 1 ∷
-    askDropRecords 3 bad 0 (unknown ∷ []) tells refused 7 1 ∷
-    askDropRecords 3 [] 8 (unknown ∷ []) tells refused 8 1 ∷
+    dropRecordsTells 33 many 0 [] tells refused 3 0 ∷
+    dropRecordsTells 33 bad 0 [] tells refused 3 0 ∷
+    dropRecordsTells 0 [] 1 [] tells refused 3 0 ∷
+    dropRecordsTells 33 [] 0 (unknown ∷ []) tells refused 3 0 ∷
+    dropRecordsTells 3 bad 8 [] tells refused 7 1 ∷
+    dropRecordsTells 3 bad 0 (unknown ∷ []) tells refused 7 1 ∷
+    dropRecordsTells 3 [] 8 (unknown ∷ []) tells refused 8 1 ∷
     -- the backward set: 3 5 7 10
-    askBackwardSet 33 many (replicate 1027 9) tells refused 3 0 ∷
-    askBackwardSet 33 bad (replicate 3 9) tells refused 3 0 ∷
-    askBackwardSet 33 [] [] tells refused 3 0 ∷
-    askBackwardSet 3 bad [] tells refused 7 1 ∷
+    backwardSetTells 33 many (replicate 1027 9) tells refused 3 0 ∷
+    backwardSetTells 33 bad (replicate 3 9) tells refused 3 0 ∷
+    backwardSetTells 33 [] [] tells refused 3 0 ∷
+    backwardSetTells 3 bad [] tells refused 7 1 ∷
     -- the compact set: 3 5 7 11 10
-    askCompactSet 0 many (replicate 20 9) tells refused 3 0 ∷
-    askCompactSet 0 bad (replicate 20 9) tells refused 3 0 ∷
-    askCompactSet 33 [] (replicate 20 9) tells refused 3 0 ∷
-    askCompactSet 0 [] [] tells refused 3 0 ∷
-    askCompactSet 13 bad (replicate 20 9) tells refused 7 1 ∷
-    askCompactSet 3 bad [] tells refused 7 1 ∷
-    askCompactSet 13 [] [] tells refused 11 0 ∷ []
+    compactSetTells 0 many (replicate 20 9) tells refused 3 0 ∷
+    compactSetTells 0 bad (replicate 20 9) tells refused 3 0 ∷
+    compactSetTells 33 [] (replicate 20 9) tells refused 3 0 ∷
+    compactSetTells 0 [] [] tells refused 3 0 ∷
+    compactSetTells 13 bad (replicate 20 9) tells refused 7 1 ∷
+    compactSetTells 3 bad [] tells refused 7 1 ∷
+    compactSetTells 13 [] [] tells refused 11 0 ∷ []

@@ -7,12 +7,12 @@ use Rattle.refusals.specs.Tables.Told.{answered, refused}
 use Rattle.proved_samples.specs.Sample.{sampleJob}
 use Rattle.borders.specs.Rows.{Row}
 use Rattle.borders.specs.Rows.Row.{_tells_, _gives_}
-use Rattle.borders.specs.Calls.{askRead, gatesAfterRead, vectorsAfterRead}
+use Rattle.job.specs.Promises.{readTells, readLeavesGates, readLeavesVectors}
 use Rattle.borders.specs.Images.{job, bareJob, _but_is_}
 
 -- read into room for 6 words of gates and 3 vectors
 abbrev pub read : List ℕ → Told
-read bytes = askRead bytes (replicate 6 9) (replicate 3 9)
+read bytes = readTells bytes (replicate 6 9) (replicate 3 9)
 
 unfoldable pub readTable : List Row
 readTable =
@@ -93,20 +93,20 @@ readTable =
     read (job but 63 is 1) tells refused 8 3 ∷
     read (job but 56 is 8 but 60 is 8) tells refused 8 2 ∷
     -- rule 10: room for d gates and m vectors
-    askRead job (replicate 5 9) (replicate 3 9) tells refused 10 0 ∷
-    askRead job (replicate 6 9) (replicate 2 9) tells refused 10 0 ∷
-    askRead bareJob [] [] tells answered (3 ∷ 15 ∷ 0 ∷ 0 ∷ []) ∷
+    readTells job (replicate 5 9) (replicate 3 9) tells refused 10 0 ∷
+    readTells job (replicate 6 9) (replicate 2 9) tells refused 10 0 ∷
+    readTells bareJob [] [] tells answered (3 ∷ 15 ∷ 0 ∷ 0 ∷ []) ∷
     -- the lists after: what was read, then the old contents; a refusal leaves all
-    gatesAfterRead job (replicate 6 9) (replicate 3 9) gives (3 ∷ 0 ∷ 2 ∷ 1 ∷ 0 ∷ 1 ∷ []) ∷
-    gatesAfterRead job (replicate 7 9) (replicate 3 9) gives (3 ∷ 0 ∷ 2 ∷ 1 ∷ 0 ∷ 1 ∷ 9 ∷ []) ∷
-    vectorsAfterRead job (replicate 6 9) (replicate 3 9) gives (0 ∷ 3 ∷ 5 ∷ []) ∷
-    vectorsAfterRead job (replicate 6 9) (replicate 5 9) gives (0 ∷ 3 ∷ 5 ∷ 9 ∷ 9 ∷ []) ∷
-    gatesAfterRead job (replicate 6 9) (replicate 2 9) gives (9 ∷ 9 ∷ 9 ∷ 9 ∷ 9 ∷ 9 ∷ []) ∷
-    vectorsAfterRead job (replicate 5 9) (replicate 3 9) gives (9 ∷ 9 ∷ 9 ∷ []) ∷
-    gatesAfterRead (job but 60 is 8) (replicate 6 9) (replicate 3 9) gives (9 ∷ 9 ∷ 9 ∷ 9 ∷ 9 ∷ 9 ∷ []) ∷
-    vectorsAfterRead (job but 60 is 8) (replicate 6 9) (replicate 3 9) gives (9 ∷ 9 ∷ 9 ∷ []) ∷
+    readLeavesGates job (replicate 6 9) (replicate 3 9) gives (3 ∷ 0 ∷ 2 ∷ 1 ∷ 0 ∷ 1 ∷ []) ∷
+    readLeavesGates job (replicate 7 9) (replicate 3 9) gives (3 ∷ 0 ∷ 2 ∷ 1 ∷ 0 ∷ 1 ∷ 9 ∷ []) ∷
+    readLeavesVectors job (replicate 6 9) (replicate 3 9) gives (0 ∷ 3 ∷ 5 ∷ []) ∷
+    readLeavesVectors job (replicate 6 9) (replicate 5 9) gives (0 ∷ 3 ∷ 5 ∷ 9 ∷ 9 ∷ []) ∷
+    readLeavesGates job (replicate 6 9) (replicate 2 9) gives (9 ∷ 9 ∷ 9 ∷ 9 ∷ 9 ∷ 9 ∷ []) ∷
+    readLeavesVectors job (replicate 5 9) (replicate 3 9) gives (9 ∷ 9 ∷ 9 ∷ []) ∷
+    readLeavesGates (job but 60 is 8) (replicate 6 9) (replicate 3 9) gives (9 ∷ 9 ∷ 9 ∷ 9 ∷ 9 ∷ 9 ∷ []) ∷
+    readLeavesVectors (job but 60 is 8) (replicate 6 9) (replicate 3 9) gives (9 ∷ 9 ∷ 9 ∷ []) ∷
     -- a word is four bytes, the lowest first
-    gatesAfterRead (job but 2 is 32 but 28 is 1 but 29 is 2 but 30 is 3 but 31 is 4 but 36 is 2) (replicate 6 9) (replicate 3 9)
+    readLeavesGates (job but 2 is 32 but 28 is 1 but 29 is 2 but 30 is 3 but 31 is 4 but 36 is 2) (replicate 6 9) (replicate 3 9)
     gives (67305985 ∷ 0 ∷ 2 ∷ 1 ∷ 0 ∷ 1 ∷ []) ∷
-    vectorsAfterRead (job but 2 is 32 but 52 is 255 but 53 is 254 but 54 is 253 but 55 is 252) (replicate 6 9) (replicate 3 9)
+    readLeavesVectors (job but 2 is 32 but 52 is 255 but 53 is 254 but 54 is 253 but 55 is 252) (replicate 6 9) (replicate 3 9)
     gives (4244504319 ∷ 3 ∷ 5 ∷ []) ∷ []

@@ -7,7 +7,7 @@ use Rattle.text.specs.Decimal.{decimal}
 use Rattle.report_text.specs.Report.{reportText, refusedText}
 use Rattle.borders.specs.Rows.{Row}
 use Rattle.borders.specs.Rows.Row.{_tells_, _gives_}
-use Rattle.borders.specs.Calls.{askReport, afterReport}
+use Rattle.report_text.specs.Promises.{reportTells, reportLeaves}
 use Rattle.borders.specs.Images.{job, bareJob, _but_is_}
 
 -- the lines of the report on the sample job
@@ -85,10 +85,10 @@ reportTable =
     decimal 65600 gives (54 ∷ 53 ∷ 54 ∷ 48 ∷ 48 ∷ []) ∷
     decimal 4294967295 gives (52 ∷ 50 ∷ 57 ∷ 52 ∷ 57 ∷ 54 ∷ 55 ∷ 50 ∷ 57 ∷ 53 ∷ []) ∷
     -- rule 10: room for the text; what lies beyond keeps its contents, and a refusal leaves all
-    askReport job (replicate 47 9) tells refused 10 0 ∷
-    askReport job (replicate 48 9) tells answered (48 ∷ []) ∷
-    askReport [] (replicate 5 9) tells refused 10 0 ∷
-    askReport [] (replicate 6 9) tells answered (6 ∷ []) ∷
-    afterReport job (replicate 47 9) gives replicate 47 9 ∷
-    afterReport job (replicate 50 9) gives (lineJ ++ (lineS ++ (lineM ++ (lineC ++ (lineX ++ (9 ∷ 9 ∷ [])))))) ∷
-    afterReport [] (replicate 8 9) gives (69 ∷ 32 ∷ 49 ∷ 32 ∷ 48 ∷ 10 ∷ 9 ∷ 9 ∷ []) ∷ []
+    reportTells job (replicate 47 9) tells refused 10 0 ∷
+    reportTells job (replicate 48 9) tells answered (48 ∷ []) ∷
+    reportTells [] (replicate 5 9) tells refused 10 0 ∷
+    reportTells [] (replicate 6 9) tells answered (6 ∷ []) ∷
+    reportLeaves job (replicate 47 9) gives replicate 47 9 ∷
+    reportLeaves job (replicate 50 9) gives (lineJ ++ (lineS ++ (lineM ++ (lineC ++ (lineX ++ (9 ∷ 9 ∷ [])))))) ∷
+    reportLeaves [] (replicate 8 9) gives (69 ∷ 32 ∷ 49 ∷ 32 ∷ 48 ∷ 10 ∷ 9 ∷ 9 ∷ []) ∷ []

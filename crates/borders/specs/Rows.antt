@@ -3,6 +3,7 @@ use Prim.Native.Nat.{ℕ}
 use mathlib.Core.Path.{_≡_}
 use mathlib.Core.List.{List}
 use Rattle.refusals.specs.Tables.{Told}
+use Rattle.faults.specs.declared.Fault.{Fault}
 
 infix 68 _tells_
 infix 68 _gives_
@@ -15,3 +16,7 @@ pub data Row : Type 0 where
 abbrev pub Right : Row → Type 0
 Right (asked tells expected) = asked ≡ expected
 Right (made gives expected) = made ≡ expected
+
+-- a fault record: class, place, line, value
+abbrev pub fault : ℕ → ℕ → ℕ → ℕ → Fault
+fault class place line value = record { class = class; place = place; line = line; value = value }

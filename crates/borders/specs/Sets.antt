@@ -10,43 +10,43 @@ use Rattle.circuit.specs.Gates.{gatesOf}
 use Rattle.proved_samples.specs.Sample.{sampleWords}
 use Rattle.borders.specs.Rows.{Row}
 use Rattle.borders.specs.Rows.Row.{_tells_, _gives_}
-use Rattle.borders.specs.Calls.{askBackwardSet, afterBackwardSet, askCompactSet, afterCompactSet}
+use Rattle.testsets.specs.Promises.{backwardSetTells, backwardSetLeaves, compactSetTells, compactSetLeaves}
 
 unfoldable pub setTable : List Row
 setTable =
     -- the backward set, room d + 2; what lies beyond keeps its contents, and a refusal leaves all
-    askBackwardSet 3 sampleWords (9 ∷ 9 ∷ 9 ∷ []) tells refused 10 0 ∷
-    askBackwardSet 3 sampleWords (9 ∷ 9 ∷ 9 ∷ 9 ∷ []) tells answered (4 ∷ []) ∷
-    afterBackwardSet 3 sampleWords (9 ∷ 9 ∷ 9 ∷ []) gives (9 ∷ 9 ∷ 9 ∷ []) ∷
-    afterBackwardSet 3 sampleWords (9 ∷ 9 ∷ 9 ∷ 9 ∷ []) gives (0 ∷ 7 ∷ 3 ∷ 5 ∷ []) ∷
-    afterBackwardSet 3 sampleWords (9 ∷ 9 ∷ 9 ∷ 9 ∷ 8 ∷ 6 ∷ []) gives (0 ∷ 7 ∷ 3 ∷ 5 ∷ 8 ∷ 6 ∷ []) ∷
-    askBackwardSet 1 [] (9 ∷ []) tells refused 10 0 ∷
-    askBackwardSet 1 [] (9 ∷ 9 ∷ []) tells answered (2 ∷ []) ∷
-    afterBackwardSet 1 [] (9 ∷ 9 ∷ 9 ∷ []) gives (0 ∷ 1 ∷ 9 ∷ []) ∷
-    afterBackwardSet 32 (0 ∷ 0 ∷ 0 ∷ []) (9 ∷ 9 ∷ 9 ∷ []) gives (0 ∷ 4294967295 ∷ 4294967295 ∷ []) ∷
-    askBackwardSet 0 [] (9 ∷ 9 ∷ []) tells refused 3 0 ∷
-    askBackwardSet 32 [] (9 ∷ 9 ∷ []) tells answered (2 ∷ []) ∷
-    askBackwardSet 33 [] (9 ∷ 9 ∷ []) tells refused 3 0 ∷
-    askBackwardSet 3 (3 ∷ 0 ∷ 2 ∷ 8 ∷ 0 ∷ 1 ∷ []) (9 ∷ 9 ∷ 9 ∷ 9 ∷ []) tells refused 7 2 ∷
+    backwardSetTells 3 sampleWords (9 ∷ 9 ∷ 9 ∷ []) tells refused 10 0 ∷
+    backwardSetTells 3 sampleWords (9 ∷ 9 ∷ 9 ∷ 9 ∷ []) tells answered (4 ∷ []) ∷
+    backwardSetLeaves 3 sampleWords (9 ∷ 9 ∷ 9 ∷ []) gives (9 ∷ 9 ∷ 9 ∷ []) ∷
+    backwardSetLeaves 3 sampleWords (9 ∷ 9 ∷ 9 ∷ 9 ∷ []) gives (0 ∷ 7 ∷ 3 ∷ 5 ∷ []) ∷
+    backwardSetLeaves 3 sampleWords (9 ∷ 9 ∷ 9 ∷ 9 ∷ 8 ∷ 6 ∷ []) gives (0 ∷ 7 ∷ 3 ∷ 5 ∷ 8 ∷ 6 ∷ []) ∷
+    backwardSetTells 1 [] (9 ∷ []) tells refused 10 0 ∷
+    backwardSetTells 1 [] (9 ∷ 9 ∷ []) tells answered (2 ∷ []) ∷
+    backwardSetLeaves 1 [] (9 ∷ 9 ∷ 9 ∷ []) gives (0 ∷ 1 ∷ 9 ∷ []) ∷
+    backwardSetLeaves 32 (0 ∷ 0 ∷ 0 ∷ []) (9 ∷ 9 ∷ 9 ∷ []) gives (0 ∷ 4294967295 ∷ 4294967295 ∷ []) ∷
+    backwardSetTells 0 [] (9 ∷ 9 ∷ []) tells refused 3 0 ∷
+    backwardSetTells 32 [] (9 ∷ 9 ∷ []) tells answered (2 ∷ []) ∷
+    backwardSetTells 33 [] (9 ∷ 9 ∷ []) tells refused 3 0 ∷
+    backwardSetTells 3 (3 ∷ 0 ∷ 2 ∷ 8 ∷ 0 ∷ 1 ∷ []) (9 ∷ 9 ∷ 9 ∷ 9 ∷ []) tells refused 7 2 ∷
     -- the compact set, room 2 + floor(log2 S), even where fewer are found
     (siteCount 3 (gatesOf sampleWords) ∷ bound 3 (gatesOf sampleWords) ∷ []) gives (9 ∷ 5 ∷ []) ∷
-    askCompactSet 3 sampleWords (9 ∷ 9 ∷ 9 ∷ 9 ∷ []) tells refused 10 0 ∷
-    askCompactSet 3 sampleWords (9 ∷ 9 ∷ 9 ∷ 9 ∷ 9 ∷ []) tells answered (3 ∷ []) ∷
-    afterCompactSet 3 sampleWords (9 ∷ 9 ∷ 9 ∷ 9 ∷ []) gives (9 ∷ 9 ∷ 9 ∷ 9 ∷ []) ∷
-    afterCompactSet 3 sampleWords (9 ∷ 9 ∷ 9 ∷ 9 ∷ 9 ∷ []) gives (0 ∷ 3 ∷ 5 ∷ 9 ∷ 9 ∷ []) ∷
-    afterCompactSet 3 sampleWords (9 ∷ 9 ∷ 9 ∷ 9 ∷ 9 ∷ 8 ∷ []) gives (0 ∷ 3 ∷ 5 ∷ 9 ∷ 9 ∷ 8 ∷ []) ∷
-    afterCompactSet 2 (1 ∷ 0 ∷ 1 ∷ []) (9 ∷ 9 ∷ 9 ∷ 9 ∷ []) gives (0 ∷ 1 ∷ 2 ∷ 9 ∷ []) ∷
+    compactSetTells 3 sampleWords (9 ∷ 9 ∷ 9 ∷ 9 ∷ []) tells refused 10 0 ∷
+    compactSetTells 3 sampleWords (9 ∷ 9 ∷ 9 ∷ 9 ∷ 9 ∷ []) tells answered (3 ∷ []) ∷
+    compactSetLeaves 3 sampleWords (9 ∷ 9 ∷ 9 ∷ 9 ∷ []) gives (9 ∷ 9 ∷ 9 ∷ 9 ∷ []) ∷
+    compactSetLeaves 3 sampleWords (9 ∷ 9 ∷ 9 ∷ 9 ∷ 9 ∷ []) gives (0 ∷ 3 ∷ 5 ∷ 9 ∷ 9 ∷ []) ∷
+    compactSetLeaves 3 sampleWords (9 ∷ 9 ∷ 9 ∷ 9 ∷ 9 ∷ 8 ∷ []) gives (0 ∷ 3 ∷ 5 ∷ 9 ∷ 9 ∷ 8 ∷ []) ∷
+    compactSetLeaves 2 (1 ∷ 0 ∷ 1 ∷ []) (9 ∷ 9 ∷ 9 ∷ 9 ∷ []) gives (0 ∷ 1 ∷ 2 ∷ 9 ∷ []) ∷
     -- S = 1, 2, 3, 4, 7 and 8
     (log2 1 ∷ log2 2 ∷ log2 3 ∷ log2 4 ∷ log2 7 ∷ log2 8 ∷ log2 12300 ∷ log2 0 ∷ []) gives (0 ∷ 1 ∷ 1 ∷ 2 ∷ 2 ∷ 3 ∷ 13 ∷ 0 ∷ []) ∷
-    askCompactSet 1 [] (9 ∷ []) tells refused 10 0 ∷
-    askCompactSet 1 [] (9 ∷ 9 ∷ []) tells answered (2 ∷ []) ∷
-    afterCompactSet 1 [] (9 ∷ 9 ∷ []) gives (0 ∷ 1 ∷ []) ∷
-    askCompactSet 2 [] (9 ∷ 9 ∷ []) tells refused 10 0 ∷
-    askCompactSet 2 [] (9 ∷ 9 ∷ 9 ∷ []) tells answered (2 ∷ []) ∷
-    askCompactSet 3 [] (9 ∷ 9 ∷ []) tells refused 10 0 ∷
-    askCompactSet 3 [] (9 ∷ 9 ∷ 9 ∷ []) tells answered (2 ∷ []) ∷
-    askCompactSet 4 [] (9 ∷ 9 ∷ 9 ∷ []) tells refused 10 0 ∷
-    askCompactSet 4 [] (9 ∷ 9 ∷ 9 ∷ 9 ∷ []) tells answered (2 ∷ []) ∷
+    compactSetTells 1 [] (9 ∷ []) tells refused 10 0 ∷
+    compactSetTells 1 [] (9 ∷ 9 ∷ []) tells answered (2 ∷ []) ∷
+    compactSetLeaves 1 [] (9 ∷ 9 ∷ []) gives (0 ∷ 1 ∷ []) ∷
+    compactSetTells 2 [] (9 ∷ 9 ∷ []) tells refused 10 0 ∷
+    compactSetTells 2 [] (9 ∷ 9 ∷ 9 ∷ []) tells answered (2 ∷ []) ∷
+    compactSetTells 3 [] (9 ∷ 9 ∷ []) tells refused 10 0 ∷
+    compactSetTells 3 [] (9 ∷ 9 ∷ 9 ∷ []) tells answered (2 ∷ []) ∷
+    compactSetTells 4 [] (9 ∷ 9 ∷ 9 ∷ []) tells refused 10 0 ∷
+    compactSetTells 4 [] (9 ∷ 9 ∷ 9 ∷ 9 ∷ []) tells answered (2 ∷ []) ∷
     firstOf (compactRows 7 [] 3) (answered []) tells refused 10 0 ∷
     firstOf (compactRows 7 [] 4) (answered []) tells answered [] ∷
     firstOf (compactRows 8 [] 4) (answered []) tells refused 10 0 ∷
@@ -59,4 +59,4 @@ setTable =
     firstOf (compactRows 32 [] 7) (answered []) tells refused 11 0 ∷
     firstOf (compactRows 0 [] 5) (answered []) tells refused 3 0 ∷
     firstOf (compactRows 33 [] 5) (answered []) tells refused 3 0 ∷
-    askCompactSet 3 (3 ∷ 0 ∷ 2 ∷ 8 ∷ 0 ∷ 1 ∷ []) (9 ∷ 9 ∷ 9 ∷ 9 ∷ 9 ∷ []) tells refused 7 2 ∷ []
+    compactSetTells 3 (3 ∷ 0 ∷ 2 ∷ 8 ∷ 0 ∷ 1 ∷ []) (9 ∷ 9 ∷ 9 ∷ 9 ∷ 9 ∷ []) tells refused 7 2 ∷ []
