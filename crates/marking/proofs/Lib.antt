@@ -3,6 +3,7 @@ pub mod Counting
 pub mod MarkLaws
 pub mod MarkedLaws
 pub mod ExactLaws
+pub mod Levels
 pub mod TurnLaws
 pub mod TallyLaws
 pub mod FirstLaws

@@ -120,7 +120,7 @@ sum-from-one f a (suc k) = ap₂ _+_ (ap f (sym (add-one a))) (sum-from-one f (s
 pub record Adding (f : ℕ → ℕ) (total end sum i : ℕ) : Type 0 where
   pub few : end ≤ levels
   pub within : i ≤ end
-  pub small : sum ≤ 64 * i
+  pub small : sum ≤ 2 * mostLines * i
   pub rest : sum + sumFrom f i (end - i) ≡ total
 
 pub adding-start : (f : ℕ → ℕ) (total end places : ℕ) → end ≡ places → places ≤ levels → total ≡ sumFrom f 0 places → Adding f total end 0 0
@@ -129,7 +129,7 @@ adding-start f total end places e fit whole =
     record { few = omega arith; within = omega arith; small = omega arith; rest = rw all (omega (arith, whole)) }
 
 module _ (f : ℕ → ℕ) (total end sum i : ℕ) (so-far : Adding f total end sum i) where
-  pub adding-more : (word : ℕ) → i < end → word ≡ f i → word ≤ 64 → Adding f total end (sum + word) (i + 1)
+  pub adding-more : (word : ℕ) → i < end → word ≡ f i → word ≤ 2 * mostLines → Adding f total end (sum + word) (i + 1)
   adding-more word h here small = record {
     few = so-far .few;
     within = omega arith;

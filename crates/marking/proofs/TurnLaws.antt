@@ -1,5 +1,5 @@
 -- The turns of the marking loops, on the terms that code makes: one word is marked, and the state goes one level up.
-use Prim.Native.Nat.{ℕ, _+_, _-_, _/_, _≤_, _<_}
+use Prim.Native.Nat.{ℕ, _+_, _-_, _≤_, _<_}
 use mathlib.Core.Path.{_≡_, refl, sym, ap, _∙_}
 use mathlib.Core.List.{List, []}
 use native.Mathlib.Numerals.{add-one}
@@ -9,28 +9,13 @@ use lib.ListN.{length, getD, take}
 use lib.Seq.{take-all}
 use Rattle.words.specs.WordOf.{lacking}
 use Rattle.circuit.specs.Gates.{gatesOf, gateAt}
-use Rattle.circuit.specs.Limits.{mostLines}
-use Rattle.circuit.specs.Runs.{step, forward}
-use Rattle.circuit.specs.Sound.{GateOk, Sound}
+use Rattle.circuit.specs.Sound.{Sound}
 use Rattle.circuit.specs.declared.Gate.{Gate}
-use Rattle.circuit.proofs.GateLaws.{gates-count}
-use Rattle.circuit.proofs.RuleLaws.{gate-ok, target-fits}
-use Rattle.circuit.proofs.RunLaws.{forward-none, level-step}
 use Rattle.faults.specs.Sites.{sites}
 use Rattle.marking.specs.Marks.{caughtAtGate, markedAt, marked, levelMarks, gateMarks}
+use Rattle.marking.proofs.Levels.{AtLevel}
 use Rattle.marking.proofs.MarkedLaws.{mark-more, level-marks-length, gate-marks-length, level-mark-at, gate-mark-at}
 use Rattle.marking.proofs.MarkLaws.{level-zero, level-one, gate-caught}
-
--- ---- a walk up the levels
-
--- a vector has been run through i gates of a circuit that has `last` of them
-pub record Walk (gates : List ℕ) (x last s i : ℕ) : Type 0 where
-  pub last-is : last ≡ length (gatesOf gates)
-  pub within : i ≤ last
-  pub here : s ≡ forward (gatesOf gates) i x
-
-pub walk-start : (gates : List ℕ) (x : ℕ) → Walk gates x (length gates / 3) x 0
-walk-start gates x = record { last-is = sym (gates-count gates); within = omega arith; here = sym (forward-none (gatesOf gates) x) }
 
 -- ---- marks, a word at a time
 
@@ -47,7 +32,7 @@ mark-done ws ms now k h e = e ∙ ap (marked ws) (take-all k ms h)
 
 -- ---- one turn
 
-module _ (n : ℕ) (gates : List ℕ) (ok : Sound n gates) (x last s i : ℕ) (walk : Walk gates x last s i) where
+module _ (n : ℕ) (gates : List ℕ) (ok : Sound n gates) (x last s i : ℕ) (here : AtLevel gates x last s i) where
   -- the marks of this level, stuck at 0 and stuck at 1
   module _ (k : ℕ) (level : k ≡ i) (ws now : List ℕ) where
     pub level-turn-0 : now ≡ marked ws (take i (levelMarks n (gatesOf gates) 0 x))
@@ -55,44 +40,30 @@ module _ (n : ℕ) (gates : List ℕ) (ok : Sound n gates) (x last s i : ℕ) (w
     level-turn-0 e =
         let h : i ≤ length (gatesOf gates) = omega arith in
         mark-turn ws (levelMarks n (gatesOf gates) 0 x) now i k _ (omega (arith, level-marks-length n (gatesOf gates) 0 x)) e level
-        (rw (level, walk .here) (sym (level-mark-at n (gatesOf gates) 0 x i h ∙ level-zero n (gatesOf gates) (ok .gates-ok) x i h)))
+        (rw (level, here .state-is) (sym (level-mark-at n (gatesOf gates) 0 x i h ∙ level-zero n (gatesOf gates) (ok .gates-ok) x i h)))
 
     pub level-turn-1 : now ≡ marked ws (take i (levelMarks n (gatesOf gates) 1 x))
         → markedAt now k (lacking (sites n (gatesOf gates) k) s) ≡ marked ws (take (i + 1) (levelMarks n (gatesOf gates) 1 x))
     level-turn-1 e =
         let h : i ≤ length (gatesOf gates) = omega arith in
         mark-turn ws (levelMarks n (gatesOf gates) 1 x) now i k _ (omega (arith, level-marks-length n (gatesOf gates) 1 x)) e level
-        (rw (level, walk .here) (sym (level-mark-at n (gatesOf gates) 1 x i h ∙ level-one n (gatesOf gates) (ok .gates-ok) x i h)))
+        (rw (level, here .state-is) (sym (level-mark-at n (gatesOf gates) 1 x i h ∙ level-one n (gatesOf gates) (ok .gates-ok) x i h)))
 
   -- after the last
   pub levels-done : (value : ℕ) (ws now : List ℕ) → last ≤ i → now ≡ marked ws (take (i + 1) (levelMarks n (gatesOf gates) value x))
       → now ≡ marked ws (levelMarks n (gatesOf gates) value x)
   levels-done value ws now h e = mark-done ws _ now (i + 1) (omega (arith, level-marks-length n (gatesOf gates) value x)) e
 
-  -- the gate that reads this level
+  -- the marks of the gate that reads this level
   module _ (more : i < last) (g : Gate) (k : ℕ) (is : g ≡ gateAt (gatesOf gates) k) (number : k ≡ i + 1) where
     before : i + 1 - 1 ≡ i
     before = omega arith
 
-    pub walk-gate-ok : GateOk n g
-    walk-gate-ok = rw (is, number) (gate-ok n gates (i + 1) ok (omega arith) (omega arith))
-
-    pub walk-target : g .target < mostLines
-    walk-target = rw (is, number) (target-fits n gates (i + 1) ok (omega arith) (omega arith))
-
-    pub walk-more : Walk gates x last (step g s) (i + 1)
-    walk-more = record {
-      last-is = walk .last-is;
-      within = omega arith;
-      here = rw (is, number, walk .here) (sym (simp before at (level-step (gatesOf gates) (i + 1) x (omega arith) (omega arith))));
-    }
-
-    -- its marks
     pub gate-turn : (class : ℕ) → 2 ≤ class → (ws now : List ℕ) → now ≡ marked ws (take i (gateMarks n (gatesOf gates) class x))
         → markedAt now i (caughtAtGate class n g s) ≡ marked ws (take (i + 1) (gateMarks n (gatesOf gates) class x))
     gate-turn class some ws now e =
         mark-turn ws (gateMarks n (gatesOf gates) class x) now i i _ (omega (arith, gate-marks-length n (gatesOf gates) class x)) e refl
-        (rw (is, number, walk .here)
+        (rw (is, number, here .state-is)
         (sym (simp before at (gate-mark-at n (gatesOf gates) class x (i + 1) (omega arith) (omega arith)
         ∙ gate-caught n (gatesOf gates) (ok .gates-ok) x (i + 1) (omega arith) (omega arith) class (λ e. omega arith)))))
 

@@ -44,7 +44,7 @@ picks-none n gs (suc k) [] e = refl
 picks-none n gs (suc k) (f ∷ fs) e = absurd (omega arith)
 
 -- the bound fits a word
-pub bound-fits : (n : ℕ) (words : List ℕ) → Sound n words → bound n (gatesOf words) < 2 ^ 32
+bound-fits : (n : ℕ) (words : List ℕ) → Sound n words → bound n (gatesOf words) < 2 ^ 32
 unfolding bound
 bound-fits n words ok =
     let S : ℕ = siteCount n (gatesOf words) in
@@ -129,10 +129,6 @@ module _ (n : ℕ) (gs : List Gate) (ok : AllOk n gs) (old room at0 at1 : List �
           made = omega (arith, next .0);
         }
 
-  -- never more than the bound
-  pub picking-count : count ≤ bound n gs
-  picking-count = omega (arith, now .made, compact-few n gs ok)
-
   -- ---- nothing is left: the whole set is made
 
   pub picking-end : remain ≡ 0 → count ≡ length (compactSet n gs)
@@ -145,3 +141,9 @@ module _ (n : ℕ) (gs : List Gate) (ok : AllOk n gs) (old room at0 at1 : List �
 
   pub picking-long : bound n gs ≤ length old → length room ≡ length old
   picking-long wide = let most = compact-few n gs ok in fill-length (compactSet n gs) old room count (now .made) (omega arith) (now .room-is)
+
+-- the number of vectors fits a word
+pub picking-fits : (n : ℕ) (words : List ℕ) → Sound n words → (old room at0 at1 : List ℕ) (remain count : ℕ)
+    → Picking n (gatesOf words) old room at0 at1 remain count → count < 2 ^ 32
+picking-fits n words ok old room at0 at1 remain count now =
+    omega (arith, now .made, compact-few n (gatesOf words) (ok .gates-ok), bound-fits n words ok)

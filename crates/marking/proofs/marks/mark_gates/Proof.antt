@@ -7,19 +7,20 @@ use lib.ListN.{take}
 use borrow.Author.Needs.{needs}
 use Rattle.circuit.specs.Gates.{gatesOf}
 use Rattle.marking.specs.Marks.{marked, gateMarks}
-use Rattle.marking.proofs.TurnLaws.{Walk, walk-start, walk-gate-ok, walk-target, walk-more, mark-none, gate-turn, gates-done}
+use Rattle.marking.proofs.Levels.{AtLevel, level-first, level-gate-ok, level-target, level-next}
+use Rattle.marking.proofs.TurnLaws.{mark-none, gate-turn, gates-done}
 use Rattle.marking.proofs.marks.mark_gates.Statement.{statement}
 use Rattle.marking.proofs.marks.mark_gates.Tie as tie
 
 abbrev Inv-loop : tie.InvT-loop
 Inv-loop class marks₀ lines gates vector end state₀ i₀ marks state i =
-    Walk gates vector end state i × (marks ≡ marked marks₀ (take i (gateMarks lines (gatesOf gates) class vector)))
+    AtLevel gates vector end state i × (marks ≡ marked marks₀ (take i (gateMarks lines (gatesOf gates) class vector)))
 
 abbrev μ-loop : tie.MeasureT-loop
 μ-loop class marks₀ lines gates vector end state₀ i₀ marks state i = end - i
 
 loop-holds : tie.Need-loop-holds Inv-loop μ-loop
-loop-holds c = let a = c .before .args in (walk-start (a .gates .now) (a .vector), mark-none (a .marks .now))
+loop-holds c = let a = c .before .args in (level-first (a .gates .now) (a .vector), mark-none (a .marks .now))
 
 level-requires : tie.Need-level-requires Inv-loop μ-loop
 level-requires c κs = search needs
@@ -40,7 +41,7 @@ caught-at-gate-requires c κs =
       ok .some-lines,
       (
         ok .lines-fit,
-        walk-gate-ok (a .lines) (a .gates .now) ok (a .vector) _ (l .loop .state) (l .loop .i) (l .loop .inv .0)
+        level-gate-ok (a .lines) (a .gates .now) ok (a .vector) _ (l .loop .state) (l .loop .i) (l .loop .inv .0)
             (turn .loop-test .taken) (c .gate-at .result) (c .before .gate-after .result .0) (c .gate-at .ensures) (omega arith),
       ),
     )
@@ -61,7 +62,7 @@ step-requires c κs =
     let l = turn .before in
     let start = l .before .before in
     let a = start .args in
-    walk-target (a .lines) (a .gates .now) (start .pre .0) (a .vector) _ (l .loop .state) (l .loop .i) (l .loop .inv .0)
+    level-target (a .lines) (a .gates .now) (start .pre .0) (a .vector) _ (l .loop .state) (l .loop .i) (l .loop .inv .0)
     (turn .loop-test .taken) (found .gate-at .result) (found .before .gate-after .result .0) (found .gate-at .ensures) (omega arith)
 
 add-i : tie.Need-add-i Inv-loop μ-loop
@@ -79,7 +80,7 @@ loop-again c =
     let start = l .before .before in
     let a = start .args in
     let number : found .before .gate-after .result .0 ≡ l .loop .i + 1 = omega arith in (
-      rw (c .step .ensures) (walk-more (a .lines) (a .gates .now) (start .pre .0) (a .vector) _ (l .loop .state) (l .loop .i) (l .loop .inv .0)
+      rw (c .step .ensures) (level-next (a .lines) (a .gates .now) (start .pre .0) (a .vector) _ (l .loop .state) (l .loop .i) (l .loop .inv .0)
           (turn .loop-test .taken) (found .gate-at .result) (found .before .gate-after .result .0) (found .gate-at .ensures) number),
       rw (word .caught-at-gate .ensures) (gate-turn (a .lines) (a .gates .now) (start .pre .0) (a .vector) _ (l .loop .state) (l .loop .i)
           (l .loop .inv .0) (turn .loop-test .taken) (found .gate-at .result) (found .before .gate-after .result .0) (found .gate-at .ensures) number

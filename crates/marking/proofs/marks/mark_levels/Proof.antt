@@ -7,13 +7,14 @@ use lib.ListN.{take}
 use borrow.Author.Needs.{needs}
 use Rattle.circuit.specs.Gates.{gatesOf}
 use Rattle.marking.specs.Marks.{marked, levelMarks}
-use Rattle.marking.proofs.TurnLaws.{Walk, walk-start, walk-target, walk-more, mark-none, level-turn-0, level-turn-1, levels-done}
+use Rattle.marking.proofs.Levels.{AtLevel, level-first, level-target, level-next}
+use Rattle.marking.proofs.TurnLaws.{mark-none, level-turn-0, level-turn-1, levels-done}
 use Rattle.marking.proofs.marks.mark_levels.Statement.{statement}
 use Rattle.marking.proofs.marks.mark_levels.Tie as tie
 
 abbrev Inv-loop : tie.InvT-loop
 Inv-loop at-0₀ at-1₀ lines gates vector end state₀ i₀ at-0 at-1 state i =
-    Walk gates vector end state i
+    AtLevel gates vector end state i
     × ((at-0 ≡ marked at-0₀ (take i (levelMarks lines (gatesOf gates) 0 vector)))
     × (at-1 ≡ marked at-1₀ (take i (levelMarks lines (gatesOf gates) 1 vector))))
 
@@ -23,7 +24,7 @@ abbrev μ-loop : tie.MeasureT-loop
 loop-holds : tie.Need-loop-holds Inv-loop μ-loop
 loop-holds c =
     let a = c .before .args in
-    (walk-start (a .gates .now) (a .vector), (mark-none (a .at-0 .now), mark-none (a .at-1 .now)))
+    (level-first (a .gates .now) (a .vector), (mark-none (a .at-0 .now), mark-none (a .at-1 .now)))
 
 level-requires : tie.Need-level-requires Inv-loop μ-loop
 level-requires c κs = search needs
@@ -43,7 +44,7 @@ step-requires c κs =
     let l = leveled .before .before in
     let start = l .before .before in
     let a = start .args in
-    walk-target (a .lines) (a .gates .now) (start .pre) (a .vector) _ (l .loop .state) (l .loop .i) (l .loop .inv .0)
+    level-target (a .lines) (a .gates .now) (start .pre) (a .vector) _ (l .loop .state) (l .loop .i) (l .loop .inv .0)
     (leveled .before .loop-test .taken) (c .gate-at .result) (c .before .gate-after .result .0) (c .gate-at .ensures) (omega arith)
 
 add-i : tie.Need-add-i Inv-loop μ-loop
@@ -59,15 +60,15 @@ loop-again c =
     let l = leveled .before .before in
     let start = l .before .before in
     let a = start .args in
-    let walk = l .loop .inv .0 in
+    let here = l .loop .inv .0 in
     let level = leveled .level .ensures in (
-      rw (c .step .ensures) (walk-more (a .lines) (a .gates .now) (start .pre) (a .vector) _ (l .loop .state) (l .loop .i) walk
+      rw (c .step .ensures) (level-next (a .lines) (a .gates .now) (start .pre) (a .vector) _ (l .loop .state) (l .loop .i) here
           (leveled .before .loop-test .taken) (c .before .gate-at .result) (c .before .before .gate-after .result .0) (c .before .gate-at .ensures)
           (omega arith)),
       (
-        marks .mark-level .ensures .0 ∙ level-turn-0 (a .lines) (a .gates .now) (start .pre) (a .vector) _ (l .loop .state) (l .loop .i) walk
+        marks .mark-level .ensures .0 ∙ level-turn-0 (a .lines) (a .gates .now) (start .pre) (a .vector) _ (l .loop .state) (l .loop .i) here
             (leveled .level .result .0) level (a .at-0 .now) (l .loop .at-0) (l .loop .inv .1 .0),
-        marks .mark-level .ensures .1 ∙ level-turn-1 (a .lines) (a .gates .now) (start .pre) (a .vector) _ (l .loop .state) (l .loop .i) walk
+        marks .mark-level .ensures .1 ∙ level-turn-1 (a .lines) (a .gates .now) (start .pre) (a .vector) _ (l .loop .state) (l .loop .i) here
             (leveled .level .result .0) level (a .at-1 .now) (l .loop .at-1) (l .loop .inv .1 .1),
       ),
     )
@@ -85,15 +86,15 @@ returns c =
     let l = ended .before in
     let start = l .before .before in
     let a = start .args in
-    let walk = l .loop .inv .0 in
+    let here = l .loop .inv .0 in
     let level : leveled .level2 .result .0 ≡ l .loop .i = omega arith in (
-      levels-done (a .lines) (a .gates .now) (start .pre) (a .vector) _ (l .loop .state) (l .loop .i) walk 0 (a .at-0 .now) _
+      levels-done (a .lines) (a .gates .now) (start .pre) (a .vector) _ (l .loop .state) (l .loop .i) here 0 (a .at-0 .now) _
           (ended .loop-test .left)
-          (c .mark-level2 .ensures .0 ∙ level-turn-0 (a .lines) (a .gates .now) (start .pre) (a .vector) _ (l .loop .state) (l .loop .i) walk
+          (c .mark-level2 .ensures .0 ∙ level-turn-0 (a .lines) (a .gates .now) (start .pre) (a .vector) _ (l .loop .state) (l .loop .i) here
           (leveled .level2 .result .0) level (a .at-0 .now) (l .loop .at-0) (l .loop .inv .1 .0)),
-      levels-done (a .lines) (a .gates .now) (start .pre) (a .vector) _ (l .loop .state) (l .loop .i) walk 1 (a .at-1 .now) _
+      levels-done (a .lines) (a .gates .now) (start .pre) (a .vector) _ (l .loop .state) (l .loop .i) here 1 (a .at-1 .now) _
           (ended .loop-test .left)
-          (c .mark-level2 .ensures .1 ∙ level-turn-1 (a .lines) (a .gates .now) (start .pre) (a .vector) _ (l .loop .state) (l .loop .i) walk
+          (c .mark-level2 .ensures .1 ∙ level-turn-1 (a .lines) (a .gates .now) (start .pre) (a .vector) _ (l .loop .state) (l .loop .i) here
           (leveled .level2 .result .0) level (a .at-1 .now) (l .loop .at-1) (l .loop .inv .1 .1)),
     )
 

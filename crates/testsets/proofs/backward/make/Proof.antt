@@ -1,7 +1,7 @@
 -- `testsets::backward::make` meets its contract: after i turns the room begins with the first i + 2 vectors of the set,
 -- and the state is that of all zeros at level i.
 -- Assumes nothing.
-use Rattle.marking.proofs.TurnLaws.{Walk, walk-start, walk-target, walk-more}
+use Rattle.marking.proofs.Levels.{AtLevel, level-first, level-target, level-next}
 use Rattle.testsets.proofs.BackwardLaws.{backward-begin, backward-turn, backward-end, backward-length, backward-rest}
 use Prim.Native.Nat.{_+_, _-_, _/_, _≤_}
 use mathlib.Core.Path.{_≡_, refl, ap, _∙_}
@@ -16,7 +16,7 @@ use Rattle.testsets.proofs.backward.make.Tie as tie
 
 abbrev Inv-loop : tie.InvT-loop
 Inv-loop lines gates room₀ ones end state₀ i₀ room state i =
-    Walk gates 0 end state i
+    AtLevel gates 0 end state i
     × ((length room ≡ length room₀) × (room ≡ take (i + 2) (backwardSet lines (gatesOf gates)) ++ drop (i + 2) room₀))
 
 abbrev μ-loop : tie.MeasureT-loop
@@ -35,7 +35,7 @@ loop-holds : tie.Need-loop-holds Inv-loop μ-loop
 loop-holds c =
     let start = c .before .before .before in
     let a = start .args in (
-      walk-start (a .gates .now) 0,
+      level-first (a .gates .now) 0,
       (refl, backward-begin (a .lines) (gatesOf (a .gates .now)) _ (c .all-ones .ensures) (a .room .now) (start .pre .1)),
     )
 
@@ -54,7 +54,7 @@ step-requires c κs =
     let l = turn .before in
     let start = l .before .before .before .before in
     let a = start .args in
-    walk-target (a .lines) (a .gates .now) (start .pre .0) 0 _ (l .loop .state) (l .loop .i) (l .loop .inv .0)
+    level-target (a .lines) (a .gates .now) (start .pre .0) 0 _ (l .loop .state) (l .loop .i) (l .loop .inv .0)
     (turn .loop-test .taken) (c .gate-at .result) (c .before .gate-after .result .0) (c .gate-at .ensures) (omega arith)
 
 add-i : tie.Need-add-i Inv-loop μ-loop
@@ -96,13 +96,13 @@ loop-again c =
     let begun = set (set (a .room .now) 0 0) 1 (ones .result) in
     let room = start .pre .1 in
     let wide : length gs + 2 ≤ length begun = omega (arith, length-set (a .room .now) 0 0, length-set (set (a .room .now) 0 0) 1 (ones .result)) in
-    let next = rw (← stepped .step .ensures) at (walk-more (a .lines) (a .gates .now) (start .pre .0) 0 (length (a .gates .now) / 3)
+    let next = rw (← stepped .step .ensures) at (level-next (a .lines) (a .gates .now) (start .pre .0) 0 (length (a .gates .now) / 3)
     (l .loop .state) i (l .loop .inv .0) (turn .loop-test .taken) (found .gate-at .result) (found .before .gate-after .result .0)
     (found .gate-at .ensures) (omega arith)) in (
       next,
       (
         length-set (l .loop .room) (i + 1 + 1) (c .inverse-at .result) ∙ l .loop .inv .1 .0,
-        backward-turn (a .lines) gs (ones .result) (ones .ensures) begun wide (l .loop .room) i _ _ _ (omega arith) (next .here)
+        backward-turn (a .lines) gs (ones .result) (ones .ensures) begun wide (l .loop .room) i _ _ _ (omega arith) (next .state-is)
             (above .level2 .ensures) (c .inverse-at .ensures) (l .loop .inv .1 .1),
       ),
     )

@@ -8,7 +8,7 @@ use native.Mathlib.Omega.{arith}
 use borrow.Author.Needs.{needs}
 use Rattle.circuit.specs.Gates.{gatesOf}
 use Rattle.testsets.proofs.PickTurns.{Picking, picking-begin, picking-place, picking-catches, picking-turn, picking-end, picking-done}
-use Rattle.testsets.proofs.PickTurns.{picking-long, picking-count, bound-fits}
+use Rattle.testsets.proofs.PickTurns.{picking-long, picking-fits}
 use Rattle.testsets.proofs.compact.make.Statement.{statement}
 use Rattle.testsets.proofs.compact.make.Tie as tie
 
@@ -49,12 +49,7 @@ mul-room c =
     let l = c .before .before .before .before in
     let start = l .before .before .before .before .before in
     let a = start .args in
-    let ok = start .pre .0 in
-    omega (
-      arith,
-      bound-fits (a .lines) (a .gates .now) ok,
-      picking-count (a .lines) (gatesOf (a .gates .now)) (ok .gates-ok) _ _ _ _ _ _ (l .loop .inv),
-    )
+    omega (arith, picking-fits (a .lines) (a .gates .now) (start .pre .0) _ _ _ _ _ _ (l .loop .inv))
 
 slice-write-room : tie.Need-slice-write-room Inv-loop μ-loop
 slice-write-room c =
@@ -95,12 +90,7 @@ add-count c =
     let l = picked .before .before .before .before in
     let start = l .before .before .before .before .before in
     let a = start .args in
-    let ok = start .pre .0 in
-    omega (
-      arith,
-      bound-fits (a .lines) (a .gates .now) ok,
-      picking-count (a .lines) (gatesOf (a .gates .now)) (ok .gates-ok) _ _ _ _ _ _ (l .loop .inv),
-    )
+    omega (arith, picking-fits (a .lines) (a .gates .now) (start .pre .0) _ _ _ _ _ _ (l .loop .inv))
 
 loop-less : tie.Need-loop-less Inv-loop μ-loop
 loop-less c =
@@ -134,12 +124,7 @@ cast-result c =
     let l = c .before in
     let start = l .before .before .before .before .before in
     let a = start .args in
-    let ok = start .pre .0 in
-    omega (
-      arith,
-      bound-fits (a .lines) (a .gates .now) ok,
-      picking-count (a .lines) (gatesOf (a .gates .now)) (ok .gates-ok) _ _ _ _ _ _ (l .loop .inv),
-    )
+    omega (arith, picking-fits (a .lines) (a .gates .now) (start .pre .0) _ _ _ _ _ _ (l .loop .inv))
 
 same-length : tie.Need-same-length Inv-loop μ-loop
 same-length c =

@@ -9,7 +9,7 @@ use borrow.Author.Needs.{needs}
 use Rattle.words.specs.WordOf.{lacking}
 use Rattle.circuit.specs.Gates.{gatesOf}
 use Rattle.circuit.specs.Runs.{forward}
-use Rattle.marking.proofs.TurnLaws.{Walk, walk-start, walk-target, walk-more}
+use Rattle.marking.proofs.Levels.{AtLevel, level-first, level-target, level-next}
 use Rattle.testsets.specs.Left.{Left}
 use Rattle.testsets.proofs.Changes.{Changed, changed-none, changed-more}
 use Rattle.testsets.proofs.LeftLaws.{left-dropped, still-left}
@@ -18,7 +18,7 @@ use Rattle.testsets.proofs.left.drop_caught.Tie as tie
 
 abbrev Inv-loop : tie.InvT-loop
 Inv-loop lines gates left-0₀ left-1₀ vector end state₀ i₀ left-0 left-1 state i =
-    Walk gates vector end state i
+    AtLevel gates vector end state i
     × (Changed (λ k w. lacking w (forward (gatesOf gates) k vector)) i left-0₀ left-0
     × Changed (λ k w. bitAnd w (forward (gatesOf gates) k vector)) i left-1₀ left-1)
 
@@ -26,7 +26,7 @@ abbrev μ-loop : tie.MeasureT-loop
 μ-loop lines gates left-0₀ left-1₀ vector end state₀ i₀ left-0 left-1 state i = end - i
 
 loop-holds : tie.Need-loop-holds Inv-loop μ-loop
-loop-holds c = let a = c .before .args in (walk-start (a .gates .now) (a .vector), (changed-none _ _, changed-none _ _))
+loop-holds c = let a = c .before .args in (level-first (a .gates .now) (a .vector), (changed-none _ _, changed-none _ _))
 
 level-requires : tie.Need-level-requires Inv-loop μ-loop
 level-requires c κs = search needs
@@ -46,7 +46,7 @@ step-requires c κs =
     let l = leveled .before .before in
     let start = l .before .before in
     let a = start .args in
-    walk-target (a .lines) (a .gates .now) (start .pre .0) (a .vector) _ (l .loop .state) (l .loop .i) (l .loop .inv .0)
+    level-target (a .lines) (a .gates .now) (start .pre .0) (a .vector) _ (l .loop .state) (l .loop .i) (l .loop .inv .0)
     (leveled .before .loop-test .taken) (c .gate-at .result) (c .before .gate-after .result .0) (c .gate-at .ensures) (omega arith)
 
 add-i : tie.Need-add-i Inv-loop μ-loop
@@ -64,20 +64,20 @@ loop-again c =
     let a = start .args in
     let i = l .loop .i in
     let k = leveled .level .result .0 in
-    let walk = l .loop .inv .0 in
+    let here = l .loop .inv .0 in
     let zeros = l .loop .inv .1 .0 in
     let ones = l .loop .inv .1 .1 in
     let on : Left (a .lines) (gatesOf (a .gates .now)) (a .left-0 .now) (a .left-1 .now) = start .pre .1 in
     let long-0 : i < length (l .loop .left-0) = omega (arith, on .at-0 .wide, zeros .long) in
     let long-1 : i < length (l .loop .left-1) = omega (arith, on .at-1 .wide, ones .long) in (
-      rw (c .step .ensures) (walk-more (a .lines) (a .gates .now) (start .pre .0) (a .vector) _ (l .loop .state) i walk
+      rw (c .step .ensures) (level-next (a .lines) (a .gates .now) (start .pre .0) (a .vector) _ (l .loop .state) i here
           (leveled .before .loop-test .taken) (c .before .gate-at .result) (c .before .before .gate-after .result .0) (c .before .gate-at .ensures)
           (omega arith)),
       (
         rw (dropped .drop-level .ensures .0) (changed-more _ (a .left-0 .now) (l .loop .left-0) i k _ (leveled .level .ensures) long-0 zeros
-            (ap (lacking (getD (l .loop .left-0) k 0)) (walk .here))),
+            (ap (lacking (getD (l .loop .left-0) k 0)) (here .state-is))),
         rw (dropped .drop-level .ensures .1) (changed-more _ (a .left-1 .now) (l .loop .left-1) i k _ (leveled .level .ensures) long-1 ones
-            (ap (bitAnd (getD (l .loop .left-1) k 0)) (walk .here))),
+            (ap (bitAnd (getD (l .loop .left-1) k 0)) (here .state-is))),
       ),
     )
 
@@ -95,7 +95,7 @@ returns c =
     let a = start .args in
     let gs = gatesOf (a .gates .now) in
     let i = l .loop .i in
-    let walk = l .loop .inv .0 in
+    let here = l .loop .inv .0 in
     let zeros = l .loop .inv .1 .0 in
     let ones = l .loop .inv .1 .1 in
     let ok = start .pre .0 .gates-ok in
@@ -107,10 +107,10 @@ returns c =
     let last : suc (length gs) ≡ i + 1 = omega arith in
     let all-0 : Changed (λ p w. lacking w (forward gs p (a .vector))) (suc (length gs)) (a .left-0 .now) (c .drop-level2 .last .0) =
     rw (last, c .drop-level2 .ensures .0) (changed-more _ (a .left-0 .now) (l .loop .left-0) i k _ level long-0 zeros
-    (ap (lacking (getD (l .loop .left-0) k 0)) (walk .here))) in
+    (ap (lacking (getD (l .loop .left-0) k 0)) (here .state-is))) in
     let all-1 : Changed (λ p w. bitAnd w (forward gs p (a .vector))) (suc (length gs)) (a .left-1 .now) (c .drop-level2 .last .1 .0) =
     rw (last, c .drop-level2 .ensures .1) (changed-more _ (a .left-1 .now) (l .loop .left-1) i k _ level long-1 ones
-    (ap (bitAnd (getD (l .loop .left-1) k 0)) (walk .here))) in (
+    (ap (bitAnd (getD (l .loop .left-1) k 0)) (here .state-is))) in (
       still-left (a .lines) gs ok (a .left-0 .now) (a .left-1 .now) (a .vector) _ _ all-0 all-1 on,
       left-dropped (a .lines) gs ok (a .left-0 .now) (a .left-1 .now) (a .vector) _ _ all-0 all-1,
     )

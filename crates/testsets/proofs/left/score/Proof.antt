@@ -7,7 +7,7 @@ use borrow.Author.Needs.{needs}
 use Rattle.words.proofs.AndLaws.{length-lines-le}
 use Rattle.circuit.specs.Gates.{gatesOf}
 use Rattle.circuit.specs.Limits.{mostLines}
-use Rattle.marking.proofs.TurnLaws.{Walk, walk-start, walk-target, walk-more}
+use Rattle.marking.proofs.Levels.{AtLevel, level-first, level-target, level-next}
 use Rattle.testsets.specs.Left.{leftOf}
 use Rattle.testsets.specs.Sets.{score}
 use Rattle.testsets.proofs.LeftLaws.{caughtFrom, score-all, score-more, score-last}
@@ -16,7 +16,7 @@ use Rattle.testsets.proofs.left.score.Tie as tie
 
 abbrev Inv-loop : tie.InvT-loop
 Inv-loop lines gates left-0 left-1 vector ones last sum₀ state₀ i₀ sum state i =
-    Walk gates vector last state i × ((sum ≤ mostLines * i)
+    AtLevel gates vector last state i × ((sum ≤ mostLines * i)
     × (score (gatesOf gates) (leftOf lines (gatesOf gates) left-0 left-1) vector ≡ sum + caughtFrom lines (gatesOf gates) left-0 left-1 vector i))
 
 abbrev μ-loop : tie.MeasureT-loop
@@ -31,7 +31,7 @@ loop-holds c =
     let a = start .args in
     let all = score-all (a .lines) (gatesOf (a .gates .now)) (start .pre .0 .gates-ok) (a .left-0 .now) (a .left-1 .now) (start .pre .1 .0)
     (a .vector) in
-    (walk-start (a .gates .now) (a .vector), (omega arith, omega (arith, all)))
+    (level-first (a .gates .now) (a .vector), (omega arith, omega (arith, all)))
 
 level-requires : tie.Need-level-requires Inv-loop μ-loop
 level-requires c κs = search needs
@@ -57,7 +57,7 @@ step-requires c κs =
     let l = turn .before in
     let start = l .before .before .before in
     let a = start .args in
-    walk-target (a .lines) (a .gates .now) (start .pre .0) (a .vector) _ (l .loop .state) (l .loop .i) (l .loop .inv .0)
+    level-target (a .lines) (a .gates .now) (start .pre .0) (a .vector) _ (l .loop .state) (l .loop .i) (l .loop .inv .0)
     (turn .loop-test .taken) (c .gate-at .result) (c .before .gate-after .result .0) (c .gate-at .ensures) (omega arith)
 
 add-i : tie.Need-add-i Inv-loop μ-loop
@@ -77,11 +77,11 @@ loop-again c =
     let a = start .args in
     let ok = start .pre .0 in
     let i = l .loop .i in
-    let walk = l .loop .inv .0 in
+    let here = l .loop .inv .0 in
     let few : counted .newly .result ≤ mostLines = rw (counted .newly .ensures) (length-lines-le mostLines _) in
     let more = score-more (a .lines) (gatesOf (a .gates .now)) (ok .gates-ok) (a .left-0 .now) (a .left-1 .now) (a .vector) i
-    (leveled .level .result .0) (l .loop .state) _ (ok .lines-fit) (start .pre .1 .1) (omega arith) (leveled .level .ensures) ones (walk .here) in (
-      rw (c .step .ensures) (walk-more (a .lines) (a .gates .now) ok (a .vector) _ (l .loop .state) i walk
+    (leveled .level .result .0) (l .loop .state) _ (ok .lines-fit) (start .pre .1 .1) (omega arith) (leveled .level .ensures) ones (here .state-is) in (
+      rw (c .step .ensures) (level-next (a .lines) (a .gates .now) ok (a .vector) _ (l .loop .state) i here
           (turn .loop-test .taken) (c .before .gate-at .result) (c .before .before .gate-after .result .0) (c .before .gate-at .ensures)
           (omega arith)),
       (omega arith, omega (arith, more, counted .newly .ensures)),
@@ -106,9 +106,9 @@ returns c =
     let start = l .before .before .before in
     let a = start .args in
     let ok = start .pre .0 in
-    let walk = l .loop .inv .0 in
+    let here = l .loop .inv .0 in
     let last = score-last (a .lines) (gatesOf (a .gates .now)) (ok .gates-ok) (a .left-0 .now) (a .left-1 .now) (a .vector) (l .loop .i)
-    (leveled .level2 .result .0) (l .loop .state) _ (ok .lines-fit) (start .pre .1 .1) (omega arith) (omega arith) ones (walk .here) (omega arith) in
+    (leveled .level2 .result .0) (l .loop .state) _ (ok .lines-fit) (start .pre .1 .1) (omega arith) (omega arith) ones (here .state-is) (omega arith) in
     omega (arith, last, c .newly2 .ensures)
 
 pub score-spec : {M : Type 1} → statement M
