@@ -1,11 +1,13 @@
 -- What demands 2 and 3 say of a call, by its contract and what its answer tells: what the values of an answer, and the memory at exit, mean.
 use mathlib.Core.Path.{_≡_, sym, _∙_, subst}
+use mathlib.Core.Logic.{_↔_, Iff·trans}
 use mathlib.Core.List.{List}
 use Prim.Native.Nat.{ℕ}
 use Rattle.refusals.specs.Tables.{Row, Told, firstOf}
 use Rattle.refusals.specs.Tables.Told.{answered}
 use Rattle.refusals.specs.Checks.{fine}
 use Rattle.refusals.proofs.Tables.{answered-fine}
+use Rattle.demands.proofs.FirstBroken.{answers-exactly}
 use Rattle.demands.proofs.Refusing.{Refuses}
 
 -- a call that has ended with what its contract allows; its inputs are its arguments in their order, `inputs .0`, `inputs .1 .0` and so on, and `now`
@@ -40,3 +42,22 @@ module _ {L : Type 0} {Inputs Result Exit : L → Type 0} {Post : (κs : L) → 
         let w = answered-fine (rows κs a) values (answer κs a) (sym told ∙ promise κs a _ _ p) in
         subst (λ v. Meaning κs a v (call .exit)) (sym (w .0)) (meaning κs a _ _ p (w .1));
   }
+
+-- ---- what demand 1 says of a call once more: it answers exactly if its inputs are valid, in the paper's words
+
+module _ {L : Type 0} {Inputs Result Exit : L → Type 0} (Post : (κs : L) → Inputs κs → Result κs → Exit κs → Type 0)
+    (telling : (κs : L) → Result κs → Told) where
+  pub record Accepts (Valid : (κs : L) → Inputs κs → Type 0) : Type 0 where
+    pub exactly-valid : (call : Ended Post)
+        → ((values : List ℕ) × (telling (call .lifetimes) (call .result) ≡ answered values)) ↔ Valid (call .lifetimes) (call .inputs)
+
+module _ {L : Type 0} {Inputs Result Exit : L → Type 0} {Post : (κs : L) → Inputs κs → Result κs → Exit κs → Type 0}
+    {telling : (κs : L) → Result κs → Told} {rows : (κs : L) → Inputs κs → List Row} {ks : List ℕ} where
+  -- it answers exactly if no rule is broken
+  pub unrefused : Refuses Post telling rows ks → (call : Ended Post)
+      → ((values : List ℕ) × (telling (call .lifetimes) (call .result) ≡ answered values)) ↔ (fine ≡ firstOf (rows _ (call .inputs)) fine)
+  unrefused refuses call = answers-exactly (refuses .exact _ _ _ _ (call .promised) .1)
+
+  pub accepts : {Valid : (κs : L) → Inputs κs → Type 0} → Refuses Post telling rows ks
+      → ((κs : L) (a : Inputs κs) → (fine ≡ firstOf (rows κs a) fine) ↔ Valid κs a) → Accepts Post telling Valid
+  accepts refuses valid = record { exactly-valid = λ call. Iff·trans (unrefused refuses call) (valid _ (call .inputs)) }

@@ -27,7 +27,8 @@ use Rattle.nufsadeem.proofs.nuf_catches.Reads as c-catches
 use Rattle.nufsadeem.proofs.nuf_catches_multiple.Reads as c-catches-multiple
 use Rattle.demands.proofs.Machine.{Circuit, FaultyRuns, Caught, Missed, CaughtTogether, MissedTogether, Has, records, Multiple}
 use Rattle.demands.proofs.MachineLaws.{circuit-is}
-use Rattle.demands.proofs.HasLaws.{has-of, has-value, multiple-is}
+use Rattle.demands.proofs.HasLaws.{has-of, has-value}
+use Rattle.demands.proofs.ValidLists.{multiple-is}
 use Rattle.demands.proofs.FaultyLaws.{faulty-faulty, caught-means, missed-means, together-means, missed-together-means}
 use Rattle.demands.proofs.Answering.{Answers, means}
 use Rattle.demands.proofs.InC.{AnswersInC, means-in-c}

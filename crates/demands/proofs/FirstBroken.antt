@@ -63,9 +63,9 @@ answer-unbroken [] values values' e = tt
 answer-unbroken (refuse n at q when true ∷ rows) values values' e = absurd (clash (sym e))
 answer-unbroken (refuse n at q when false ∷ rows) values values' e = (refl, answer-unbroken rows values values' e)
 
--- the values that are answered are those of the answer
-pub answer-is : (rows : List Row) (values values' : List ℕ) → answered values' ≡ firstOf rows (answered values) → answered values' ≡ answered values
-answer-is rows values values' e = e ∙ told-answer rows (answered values) (answer-unbroken rows values values' (sym e))
+-- where the whole table is asked, that none is broken is that it is fine
+pub fine-unbroken : (rows : List Row) → (fine ≡ firstOf rows fine) ↔ All Unbroken rows
+fine-unbroken rows = (λ e. answer-unbroken rows [] [] (sym e), λ u. sym (told-answer rows fine u))
 
 -- ---- what a promise over a table means
 
@@ -93,14 +93,16 @@ left rows made old exit promise k p w =
 -- some rule is broken first, or none is
 pub by-first {κ} : {C : Type κ} (rows : List Row) → (fine ≡ firstOf rows fine → C)
     → ((k p : ℕ) → FirstBroken rows k p → firstOf rows fine ≡ refused k p → C) → C
-by-first [] unbroken broken = unbroken refl
-by-first (refuse n at q when true ∷ rows) unbroken broken =
-    broken n q (record { before = []; others = rows; table = refl; unbroken-before = tt }) refl
-by-first (refuse n at q when false ∷ rows) unbroken broken = by-first rows unbroken (λ k p first e. broken k p
-    (record {
-      before = refuse n at q when false ∷ first .before;
-      others = first .others;
-      table = ap (λ l. refuse n at q when false ∷ l) (first .table);
-      unbroken-before = (refl, first .unbroken-before);
-    })
-    e)
+by-first {C = C} rows unbroken broken = by-told (firstOf rows fine) refl
+  where
+    by-told : (t : Told) → firstOf rows fine ≡ t → C
+    by-told (answered values) e = unbroken (fine-unbroken rows .1 (answer-unbroken rows [] values e))
+    by-told (refused k p) e = broken k p (refused-first rows [] k p e) e
+
+-- an answer is told exactly if no rule is broken
+pub answers-exactly : {told : Told} {rows : List Row} {values : List ℕ} → Exactly told rows values
+    → ((others : List ℕ) × (told ≡ answered others)) ↔ (fine ≡ firstOf rows fine)
+answers-exactly {rows = rows} {values} w = (
+  λ t. by-first rows (λ e. e) (λ k p first e. absurd (clash (sym (t .1) ∙ w .refuses k p .1 first))),
+  λ e. (values, w .answers .1 (fine-unbroken rows .0 e)),
+)

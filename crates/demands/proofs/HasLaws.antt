@@ -2,35 +2,25 @@
 use Prim.Native.Nat.{ℕ, _*_, _≤_}
 use mathlib.Core.Path.{_≡_, refl, sym, ap, _∙_}
 use mathlib.Core.Logic.{_≢_}
-use mathlib.Core.Bool.{true, false, true≢false, not, _||_}
-use mathlib.Core.List.{List, [], _∷_, _++_}
+use mathlib.Core.Bool.{true, false, true≢false, not}
+use mathlib.Core.List.{List, [], _∷_}
 use native.Mathlib.Omega.{arith}
 use lib.ListN.{length}
 use lib.Dec.{eqb, ltb, leb}
-use borrow.Author.Tests.{eq-eqb, ne-eqb, eqb-true, eqb-false, leb-true, le-leb, ltb-true, ltb-false, lt-ltb, not-true}
-use Rattle.basics.proofs.Tests.{by-test, by-equal, and-true, and-both, or-neither}
-use Rattle.basics.proofs.All.{all-map}
+use borrow.Author.Tests.{eq-eqb, ne-eqb, eqb-true, eqb-false, leb-true, le-leb, ltb-true, lt-ltb, not-true}
+use Rattle.basics.proofs.Tests.{by-test, by-equal, and-true, and-both}
 use Rattle.words.specs.Word.{bit}
-use Rattle.refusals.specs.Tables.{firstOf}
-use Rattle.refusals.specs.Checks.{fine}
-use Rattle.refusals.specs.Places.{inWord}
-use Rattle.refusals.proofs.Tables.{fine-row, fine-parts}
-use Rattle.circuit.specs.Gates.{gatesOf, gateAt, noGate}
+use Rattle.circuit.specs.Gates.{gateAt, noGate}
 use Rattle.circuit.specs.Controls.{isControl, isOther}
-use Rattle.circuit.specs.Rules.{circuitRows, vectorRows}
 use Rattle.circuit.specs.declared.Gate.{Gate}
 use Rattle.faults.specs.Rules.{isStuckAt, isGate, isMissingGate, isMissingControl, isExtraControl, isFault}
-use Rattle.faults.specs.Records.{faultsOf, firstBadRecord}
-use Rattle.faults.specs.Multiple.{badEntry, siteTwice, entriesRows}
-use Rattle.simulator.specs.Rules.{multipleRows}
+use Rattle.faults.specs.Records.{faultsOf}
 use Rattle.faults.specs.Sites.{sites}
 use Rattle.faults.specs.Entries.{StuckOk}
 use Rattle.faults.specs.declared.Fault.{Fault}
 use Rattle.faults.proofs.RuleLaws.{class-one, class-two, class-three, class-four, class-last, stuck-at-ok}
-use Rattle.simulator.proofs.RuleLaws.{multiple-ok}
 use Rattle.faults.proofs.SiteCount.{stuck-site}
-use Rattle.testsets.proofs.Multiple.{sites-distinct}
-use Rattle.demands.proofs.Machine.{Has, records, Multiple}
+use Rattle.demands.proofs.Machine.{Has, records}
 use Rattle.demands.proofs.Machine.Has.{stuck-at, missing-gate, missing-control, extra-control}
 use Rattle.demands.proofs.MachineLaws.{control-iff}
 
@@ -149,27 +139,3 @@ pub faults-records : (fs : List Fault) → faultsOf (records fs) ≡ fs
 unfolding faultsOf
 faults-records [] = refl
 faults-records (f ∷ fs) = ap (λ more. f ∷ more) (faults-records fs)
-
--- ---- a multiple fault that breaks no rule
-
-module _ (n : ℕ) (words : List ℕ) (x : ℕ) (list : List ℕ) (unbroken : fine ≡ firstOf (multipleRows n words x list) fine) where
-  pub multiple-is : (list ≡ records (faultsOf list)) × Multiple n (gatesOf words) (faultsOf list)
-  unfolding multipleRows entriesRows
-  multiple-is =
-      let entries = multiple-ok n words x list unbroken .entries in
-      let fs : List Fault = faultsOf list in
-      let bad = firstBadRecord (badEntry n (gatesOf words)) list in
-      let w = fine-parts (circuitRows n words ++ vectorRows n x) (entriesRows n words list) unbroken in
-      let nine = fine-row (not (eqb bad 0)) 9 (inWord bad) _ (w .1) in
-      let thirteen = fine-row (eqb (length fs) 0 || (ltb 256 (length fs) || siteTwice fs)) 13 0 fine (nine .1) in
-      let few = or-neither (eqb (length fs) 0) (ltb 256 (length fs) || siteTwice fs) (thirteen .0) in
-      let many = or-neither (ltb 256 (length fs)) (siteTwice fs) (few .1) in
-      let none = eqb-false (length fs) 0 (few .0) in (
-        records-faults list (entries .whole),
-        record {
-          some = omega arith;
-          most = ltb-false 256 (length fs) (many .0);
-          stuck = all-map (λ f k. (k .class-is, stuck-at (k .class-is) (k .place-in, k .line-in) (k .value-in))) fs (entries .entries-ok);
-          once = sites-distinct fs (many .1);
-        },
-      )

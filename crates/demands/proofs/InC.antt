@@ -2,7 +2,7 @@
 -- promise over the list of its fields says it.
 use Prim.Native.Nat.{ℕ, zero, suc}
 use mathlib.Core.Path.{_≡_, refl, sym, ap, _∙_}
-use mathlib.Core.Logic.{_↔_}
+use mathlib.Core.Logic.{_↔_, Iff·trans, Iff·symm}
 use mathlib.Core.Bool.{Bool, true, false, false≢true}
 use mathlib.Core.List.{List, [], _∷_}
 use native.Mathlib.Omega.{arith}
@@ -16,7 +16,7 @@ use Rattle.refusals.specs.Tables.Told.{answered, refused}
 use Rattle.refusals.specs.Checks.{fine}
 use Rattle.refusals.proofs.Tables.{Numbered}
 use Rattle.answers.specs.Fields.{fields}
-use Rattle.demands.proofs.FirstBroken.{Unbroken, exactly}
+use Rattle.demands.proofs.FirstBroken.{Unbroken, exactly, fine-unbroken}
 use Rattle.demands.proofs.Refusing.{order, Sublist, numbers, Refuses, Leaves}
 use Rattle.demands.proofs.Answering.{Ended, means}
 
@@ -160,3 +160,21 @@ module _ {L : Type 0} {Inputs Result Exit : L → Type 0} {Post : (κs : L) → 
       → Promise others (number _ (call .result)) (place _ (call .result)) (values _ (call .result)) answer (rows _ (call .inputs))
       → toldBy (number _ (call .result)) (place _ (call .result)) (values _ (call .result)) ≡ firstOf (rows _ (call .inputs)) (answered answer)
   told-in-c others c call answer p = told-by others _ _ _ _ (rows _ (call .inputs)) (c .all-numbered _ (call .inputs)) p
+
+-- ---- a C call answers exactly if its inputs are valid: then its number is 0
+
+module _ {L : Type 0} {Inputs Result Exit : L → Type 0} (Post : (κs : L) → Inputs κs → Result κs → Exit κs → Type 0)
+    (number : (κs : L) → Result κs → ℕ) where
+  pub record AcceptsInC (Valid : (κs : L) → Inputs κs → Type 0) : Type 0 where
+    pub exactly-valid : (call : Ended Post) → (number (call .lifetimes) (call .result) ≡ 0) ↔ Valid (call .lifetimes) (call .inputs)
+
+module _ {L : Type 0} {Inputs Result Exit : L → Type 0} {Post : (κs : L) → Inputs κs → Result κs → Exit κs → Type 0}
+    {number place : (κs : L) → Result κs → ℕ} {values : (κs : L) → Result κs → List ℕ} {rows : (κs : L) → Inputs κs → List Row}
+    {ks : List ℕ} where
+  pub unrefused-in-c : RefusesInC Post number place values rows ks → (call : Ended Post)
+      → (number (call .lifetimes) (call .result) ≡ 0) ↔ (fine ≡ firstOf (rows _ (call .inputs)) fine)
+  unrefused-in-c refuses call = Iff·trans (refuses .number-0 _ _ _ _ (call .promised)) (Iff·symm (fine-unbroken (rows _ (call .inputs))))
+
+  pub accepts-in-c : {Valid : (κs : L) → Inputs κs → Type 0} → RefusesInC Post number place values rows ks
+      → ((κs : L) (a : Inputs κs) → (fine ≡ firstOf (rows κs a) fine) ↔ Valid κs a) → AcceptsInC Post number Valid
+  accepts-in-c refuses valid = record { exactly-valid = λ call. Iff·trans (unrefused-in-c refuses call) (valid _ (call .inputs)) }

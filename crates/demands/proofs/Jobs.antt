@@ -91,14 +91,14 @@ unfolding each bytesOf
 fours-are [] = refl
 fours-are (x ∷ xs) = ap (λ more. four x ++ more) (fours-are xs)
 
-image-is : (n classes : ℕ) (words xs : List ℕ) → image n classes words xs ≡ imageOf n classes (length (gatesOf words)) words xs
+pub image-is : (n classes : ℕ) (words xs : List ℕ) → image n classes words xs ≡ imageOf n classes (length (gatesOf words)) words xs
 unfolding image header rowBytes each bytesOf gateCount
 image-is n classes words xs =
     ap₂ (λ g v. head n classes (length words / 3) (length xs) ++ (g ++ v)) (fours-are words) (fours-are xs)
     ∙ ap (λ d. imageOf n classes d words xs) (sym (gates-count words))
 
 -- a circuit and a set that break none of rules 3, 5, 7 and 8
-set-fine : (n : ℕ) (words xs : List ℕ) → 1 ≤ n → n ≤ 32 → length words / 3 ≤ 1024 → length xs ≤ 2048 → firstBadGate n words ≡ 0
+pub set-fine : (n : ℕ) (words xs : List ℕ) → 1 ≤ n → n ≤ 32 → length words / 3 ≤ 1024 → length xs ≤ 2048 → firstBadGate n words ≡ 0
     → firstBadVector n xs ≡ 0 → fine ≡ firstOf (setRows n words xs) fine
 unfolding setRows circuitSetRows
 set-fine n words xs lo hi gates vectors g v = rw (
@@ -140,21 +140,23 @@ module _ (bytes : List ℕ) where
   unfolding gateWords
   gate-words = length-words (3 * gatesIn bytes) bytes 28
 
-  vector-words : length (vectorWords bytes) ≡ vectorsIn bytes
+  pub vector-words : length (vectorWords bytes) ≡ vectorsIn bytes
   unfolding vectorWords
   vector-words = length-words (vectorsIn bytes) bytes (28 + 12 * gatesIn bytes)
 
-  gate-number : gatesIn bytes ≡ length (gatesOf (gateWords bytes))
+  pub gate-number : gatesIn bytes ≡ length (gatesOf (gateWords bytes))
   gate-number = omega (arith, gates-count (gateWords bytes), gate-words)
 
   module _ (gateRoom vectorRoom : ℕ) (unbroken : fine ≡ firstOf (readRows bytes gateRoom vectorRoom) fine) where
-    pub held-set : VectorsOk (linesIn bytes) (gateWords bytes) (vectorWords bytes)
-    held-set =
+    pub held-fine : fine ≡ firstOf (setRows (linesIn bytes) (gateWords bytes) (vectorWords bytes)) fine
+    held-fine =
         let ok = read-ok bytes gateRoom vectorRoom unbroken in
         let h = ok .head in
-        vectors-ok (linesIn bytes) (gateWords bytes) (vectorWords bytes)
-        (set-fine (linesIn bytes) (gateWords bytes) (vectorWords bytes) (h .some-lines) (h .lines-fit) (omega (arith, gate-words, h .gates-fit))
-        (omega (arith, vector-words, h .vectors-fit)) (ok .gates-good) (ok .vectors-good))
+        set-fine (linesIn bytes) (gateWords bytes) (vectorWords bytes) (h .some-lines) (h .lines-fit) (omega (arith, gate-words, h .gates-fit))
+        (omega (arith, vector-words, h .vectors-fit)) (ok .gates-good) (ok .vectors-good)
+
+    pub held-set : VectorsOk (linesIn bytes) (gateWords bytes) (vectorWords bytes)
+    held-set = vectors-ok (linesIn bytes) (gateWords bytes) (vectorWords bytes) held-fine
 
     pub held-job : Job (linesIn bytes) (classesIn bytes) (gateWords bytes) (vectorWords bytes) (gatesOf (gateWords bytes))
     held-job =

@@ -11,6 +11,10 @@ pub mod Machine
 pub mod MachineLaws
 pub mod HasLaws
 pub mod FaultyLaws
+pub mod Valid
+pub mod ValidRows
+pub mod ValidCalls
+pub mod ValidLists
 pub mod Runs
 pub mod Catching
 pub mod Testing
@@ -26,7 +30,10 @@ pub mod PickedLaws
 pub mod Sets
 pub mod Dropping
 pub mod Jobs
+pub mod ValidJobs
 pub mod Reporting
+pub mod Accepting
+pub mod AcceptingOfC
 pub mod Demand2
 pub mod SetsCatch
 pub mod Demand3

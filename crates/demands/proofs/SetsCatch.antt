@@ -26,7 +26,8 @@ use Rattle.simulator.proofs.RuleLaws.{catch-ok}
 use Rattle.testsets.proofs.Multiple.{deepest, deepest-caught}
 use Rattle.demands.proofs.Machine.{Circuit, Has, Multiple}
 use Rattle.demands.proofs.MachineLaws.{circuit-ok, gates-flat}
-use Rattle.demands.proofs.HasLaws.{has-of, has-line, multiple-is}
+use Rattle.demands.proofs.HasLaws.{has-of, has-line}
+use Rattle.demands.proofs.ValidLists.{multiple-is}
 use Rattle.demands.proofs.FaultyLaws.{caught-means}
 use Rattle.demands.proofs.FaultLists.{Picks}
 use Rattle.demands.proofs.Sets.{MakesCompact}
