@@ -35,7 +35,8 @@ pub begins-unmarked : (f : Fault) → isMarked emptyCoverage f ≡ false
 begins-unmarked = empty-unmarked
 
 -- what holds of a coverage, and of the same with a vector added where no rule is broken, holds of what a call hands back
-after-either {ℓ} : {A : Type ℓ} (P : A → Type 0) (rows : List Row) (made old : A) → (fine ≡ firstOf rows fine → P made) → P old → P (after rows made old)
+after-either {ℓ} : {A : Type ℓ} (P : A → Type 0) (rows : List Row) (made old : A) → (fine ≡ firstOf rows fine → P made) → P old
+    → P (after rows made old)
 after-either P [] made old p q = p refl
 after-either P (refuse number at place when true ∷ rows) made old p q = q
 after-either P (refuse number at place when false ∷ rows) made old p q = after-either P rows made old p q
