@@ -81,17 +81,17 @@ module _ (n : ℕ) (gs : List Gate) (c : Coverage) where
 -- ---- marks that say just what some vector of the set catches give its verdict
 
 module _ (n : ℕ) (words xs : List ℕ) (ok : Sound n words) where
-  set-marks : (class : ℕ) (mark : Fault → Bool)
+  set-says : (class : ℕ) (mark : Fault → Bool)
       → ((f : Fault) → f .class ≡ class → mark f ≡ (isFault n (gatesOf words) f && caughtBySome (gatesOf words) xs f))
       → verdict mark (classFaults n (gatesOf words) class) ≡ setVerdict n (gatesOf words) xs class
-  set-marks class mark says = verdict-agree _ _ _ (all-map
+  set-says class mark says = verdict-agree _ _ _ (all-map
       (λ f of. says f (of .0) ∙ ap (λ is. is && caughtBySome (gatesOf words) xs f) (of .1))
       (classFaults n (gatesOf words) class) (class-faults-are n (gatesOf words) class))
 
   -- a coverage that was begun empty
   pub judge-is-coverage : (class : ℕ)
       → verdict (isMarked (withAll emptyCoverage n (gatesOf words) xs)) (classFaults n (gatesOf words) class) ≡ setVerdict n (gatesOf words) xs class
-  judge-is-coverage class = set-marks class _ (λ f of. mark-mean-empty n words ok xs f)
+  judge-is-coverage class = set-says class _ (λ f of. mark-mean-empty n words ok xs f)
 
   -- words of the judge's own
   pub set-levels : (at0 at1 : List ℕ) → at0 ≡ markAll (replicate levels 0) (levelMarks n (gatesOf words) 0) xs
@@ -100,7 +100,7 @@ module _ (n : ℕ) (words xs : List ℕ) (ok : Sound n words) where
   unfolding caughtBySome
   set-levels at0 at1 e0 e1 =
       let long = length-replicate {A = ℕ} levels 0 in
-      rw (e0, e1) (set-marks 1 _ (λ f of.
+      rw (e0, e1) (set-says 1 _ (λ f of.
       level-marked-all n words ok (replicate levels 0) (replicate levels 0) xs f of (omega arith) (omega arith)
       ∙ ap (λ b. b || (isFault n (gatesOf words) f && caughtBySome (gatesOf words) xs f)) (zeros-level levels f)))
 
@@ -109,6 +109,6 @@ module _ (n : ℕ) (words xs : List ℕ) (ok : Sound n words) where
   unfolding caughtBySome
   set-gates class ws lo e =
       let long = length-replicate {A = ℕ} mostGates 0 in
-      rw e (set-marks class _ (λ f of.
+      rw e (set-says class _ (λ f of.
       gate-marked-all n words ok (replicate mostGates 0) xs class f of (λ q. omega arith) (omega arith)
       ∙ ap (λ b. b || (isFault n (gatesOf words) f && caughtBySome (gatesOf words) xs f)) (zeros-gate mostGates f)))

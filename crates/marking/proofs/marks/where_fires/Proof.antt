@@ -1,4 +1,4 @@
--- `judge::marks::where_fires` meets its contract: it is the choice itself. Assumes nothing.
+-- `marking::marks::where_fires` meets its contract: it is the choice itself. Assumes nothing.
 use mathlib.Core.Path.{sym, _∙_}
 use borrow.Author.Needs.{needs}
 use Rattle.marking.proofs.marks.where_fires.Statement.{statement}

@@ -80,7 +80,8 @@ loop-again c =
     let here = l .loop .inv .0 in
     let few : counted .newly .result ≤ mostLines = rw (counted .newly .ensures) (length-lines-le mostLines _) in
     let more = score-more (a .lines) (gatesOf (a .gates .now)) (ok .gates-ok) (a .left-0 .now) (a .left-1 .now) (a .vector) i
-    (leveled .level .result .0) (l .loop .state) _ (ok .lines-fit) (start .pre .1 .1) (omega arith) (leveled .level .ensures) ones (here .state-is) in (
+    (leveled .level .result .0) (l .loop .state) _ (ok .lines-fit) (start .pre .1 .1) (omega arith) (leveled .level .ensures) ones
+    (here .state-is) in (
       rw (c .step .ensures) (level-next (a .lines) (a .gates .now) ok (a .vector) _ (l .loop .state) i here
           (turn .loop-test .taken) (c .before .gate-at .result) (c .before .before .gate-after .result .0) (c .before .gate-at .ensures)
           (omega arith)),
@@ -108,7 +109,8 @@ returns c =
     let ok = start .pre .0 in
     let here = l .loop .inv .0 in
     let last = score-last (a .lines) (gatesOf (a .gates .now)) (ok .gates-ok) (a .left-0 .now) (a .left-1 .now) (a .vector) (l .loop .i)
-    (leveled .level2 .result .0) (l .loop .state) _ (ok .lines-fit) (start .pre .1 .1) (omega arith) (omega arith) ones (here .state-is) (omega arith) in
+    (leveled .level2 .result .0) (l .loop .state) _ (ok .lines-fit) (start .pre .1 .1) (omega arith) (omega arith) ones
+    (here .state-is) (omega arith) in
     omega (arith, last, c .newly2 .ensures)
 
 pub score-spec : {M : Type 1} → statement M
