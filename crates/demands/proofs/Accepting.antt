@@ -1,4 +1,4 @@
--- Demand 1 once more, in the paper's words: each call answers exactly if what it is given is valid.
+-- Demand 1 once more, in the words of docs/SCOPE.md: each call answers exactly if what it is given is valid.
 use Prim.Native.Nat.{ℕ, _+_, _^_, _≤_, _<_}
 use mathlib.Core.Path.{_≡_}
 use mathlib.Core.Logic.{_↔_}

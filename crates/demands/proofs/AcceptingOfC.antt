@@ -1,4 +1,4 @@
--- Demand 1 for the C calls, in the paper's words: the number is 0 exactly if what the call is given is valid.
+-- Demand 1 for the C calls, in the words of docs/SCOPE.md: the number is 0 exactly if what the call is given is valid.
 use Prim.Native.Nat.{ℕ, _≤_, _<_}
 use mathlib.Core.Path.{_≡_}
 use mathlib.Core.Logic.{_↔_}

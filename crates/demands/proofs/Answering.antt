@@ -43,7 +43,7 @@ module _ {L : Type 0} {Inputs Result Exit : L → Type 0} {Post : (κs : L) → 
         subst (λ v. Meaning κs a v (call .exit)) (sym (w .0)) (meaning κs a _ _ p (w .1));
   }
 
--- ---- what demand 1 says of a call once more: it answers exactly if its inputs are valid, in the paper's words
+-- ---- what demand 1 says of a call once more: it answers exactly if its inputs are valid, in the words of docs/SCOPE.md
 
 module _ {L : Type 0} {Inputs Result Exit : L → Type 0} (Post : (κs : L) → Inputs κs → Result κs → Exit κs → Type 0)
     (telling : (κs : L) → Result κs → Told) where

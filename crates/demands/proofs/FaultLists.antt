@@ -1,4 +1,4 @@
--- Lists of faults in the paper's words: their order, the faults of a class, those of a list that are caught, and the verdict on a list.
+-- Lists of faults in the words of docs/SCOPE.md: their order, the faults of a class, those of a list that are caught, and the verdict on a list.
 use Prim.Native.Nat.{ℕ, _*_, _^_, _≤_, _<_}
 use mathlib.Core.Path.{_≡_}
 use mathlib.Core.Logic.{_≢_}

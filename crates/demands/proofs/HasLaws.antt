@@ -1,4 +1,4 @@
--- The faults that the contracts cite are the paper's: which faults a circuit has, alone, in a list of records, and together.
+-- The faults that the contracts cite are those of `Machine` and `FaultLists`: which faults a circuit has, alone, in a list of records, and together.
 use Prim.Native.Nat.{ℕ, _*_, _≤_}
 use mathlib.Core.Path.{_≡_, refl, sym, ap, _∙_}
 use mathlib.Core.Logic.{_≢_}

@@ -1,4 +1,4 @@
--- The circuit and its faults in the paper's words, spelled from the bits of a state and from lists: what the contracts are held against.
+-- The circuit and its faults in the words of docs/SCOPE.md, spelled from the bits of a state and from lists: what the contracts are held against.
 -- Of what they cite it names `bit` alone, which `bit-is` of `Demand2` spells.
 use Prim.Native.Nat.{ℕ, suc, _-_, _^_, _≤_, _<_}
 use mathlib.Core.Path.{_≡_}

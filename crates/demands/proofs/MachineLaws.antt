@@ -1,4 +1,4 @@
--- The machine that the contracts cite is the paper's: its gates, runs and faulty runs do what `Machine` says, and nothing else does.
+-- The machine that the contracts cite is the one of docs/SCOPE.md: its gates, runs and faulty runs do what `Machine` says, and nothing else does.
 use Prim.Native.Nat.{ℕ, suc, _*_, _^_, _≤_, _<_}
 use mathlib.Core.Path.{_≡_, refl, sym, ap, _∙_, subst}
 use mathlib.Core.Logic.{_↔_, _≢_}

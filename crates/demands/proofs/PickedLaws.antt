@@ -1,4 +1,4 @@
--- The picks that the contract of the compact set cites are the paper's, and so is its bound.
+-- The picks that the contract of the compact set cites are the best inputs again and again, and its bound is the logarithm's.
 use Prim.Native.Nat.{ℕ, zero, suc, _^_, _≤_, _<_}
 use mathlib.Core.Path.{_≡_, refl, sym, ap, subst}
 use mathlib.Core.Bool.{not, or-false}

@@ -1,4 +1,4 @@
--- What breaks no rule of a table is exactly what is valid in the paper's words: a circuit, with or without a set of vectors.
+-- What breaks no rule of a table is exactly what is valid in the words of docs/SCOPE.md: a circuit, with or without a set of vectors.
 use Prim.Native.Nat.{ℕ, suc, _*_, _%_, _^_, _≤_, _<_, _/_}
 use mathlib.Core.Path.{_≡_, refl, sym, ap, _∙_, subst}
 use mathlib.Core.Logic.{_↔_}

@@ -1,4 +1,4 @@
--- What each call takes, in the paper's words: exactly what breaks no rule of its table.
+-- What each call takes, in the words of docs/SCOPE.md: exactly what breaks no rule of its table.
 use Prim.Native.Nat.{ℕ, suc, _+_, _*_, _^_, _≤_, _<_}
 use mathlib.Core.Path.{_≡_, sym, ap, _∙_, subst}
 use mathlib.Core.Logic.{_↔_, Iff·trans, Iff·and, by-cases}

@@ -1,4 +1,4 @@
--- What the calls that are lent a list of fault records take, in the paper's words: exactly what breaks no rule of their tables.
+-- What the calls that are lent a list of fault records take, in the words of docs/SCOPE.md: exactly what breaks no rule of their tables.
 use Prim.Native.Nat.{ℕ, _*_, _%_, _^_, _≤_, _<_}
 use mathlib.Core.Path.{_≡_, refl, sym, ap, _∙_, subst}
 use mathlib.Core.Logic.{_↔_, Iff·trans}

@@ -1,4 +1,4 @@
--- The seven wrong programs of the paper. Each gives on a named input an answer that its call's contract rules out. What is promised there is found
+-- The seven wrong programs. Each gives on a named input an answer that its call's contract rules out. What is promised there is found
 -- by computing.
 use Prim.Native.Nat.{ℕ}
 use mathlib.Core.Path.{_≡_, refl, sym, ap, _∙_}

@@ -1,4 +1,4 @@
--- The bench samples marked P, as one table: what is asked of the sample circuit, and what it gives.
+-- The samples that are proved, as one table: what is asked of the sample circuit, and what it gives.
 use Prim.Native.Nat.{ℕ}
 use mathlib.Core.Bool.{Bool, true, false, _&&_}
 use mathlib.Core.List.{List, [], _∷_}

@@ -1,1 +1,1 @@
-// The bench samples that are proved: the sample circuit and one table. There is no code here.
+// The samples that are proved: the sample circuit and one table. There is no code here.

@@ -1,4 +1,4 @@
-// The bench samples that are not proved as a table: each is run, and says what was asked and what came.
+// The samples that are not proved as a table: each is run, and says what was asked and what came.
 use circuit::Ran;
 use job::Read;
 use judge::Verdict;

@@ -324,13 +324,13 @@ fn report(bytes: &[u8], room: usize) -> Result<u64, String> {
     Ok(1)
 }
 
-fn same<T: PartialEq + Debug>(call: &str, library: T, paper: T) -> Result<(), String> {
-    if library == paper {
+fn same<T: PartialEq + Debug>(call: &str, library: T, model: T) -> Result<(), String> {
+    if library == model {
         Ok(())
     } else {
         Err(format!(
             "{}: the library says {:?}, the simulator {:?}",
-            call, library, paper
+            call, library, model
         ))
     }
 }

@@ -16,7 +16,7 @@ pub use tally::Tally;
 
 /// Cases that are the same in every run, by subject.
 pub const FIXED: [(&str, Part); 5] = [
-    ("the paper's samples", samples::compare),
+    ("the samples", samples::compare),
     ("small circuits", small::compare),
     ("damaged images", images::compare),
     ("borders", borders::compare),

@@ -1,4 +1,4 @@
-//! The paper's samples, with the answers that the paper prints. Here the simulator has no say.
+//! The samples of docs/SCOPE.md, with the answers that it prints. Here the simulator has no say.
 
 use crate::tally::Tally;
 use nufsadeem::{gate, report, Circuit, Class, Fault, Job, Refusal};
@@ -155,12 +155,12 @@ fn is<T: PartialEq + Debug>(
     tally: &mut Tally,
     what: &str,
     library: T,
-    paper: T,
+    expected: T,
 ) -> Result<(), String> {
-    tally.holds(library == paper, || {
+    tally.holds(library == expected, || {
         format!(
-            "{}: the library says {:?}, the paper {:?}",
-            what, library, paper
+            "{}: the library says {:?}, and {:?} is right",
+            what, library, expected
         )
     })
 }

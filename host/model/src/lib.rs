@@ -1,4 +1,4 @@
-//! What the paper says, done the slow and obvious way, to be held against the proved library.
+//! What docs/SCOPE.md says, done the slow and obvious way, to be held against the proved library.
 //!
 //! Nothing here knows when a fault is caught. A fault is caught by an input when the circuit that
 //! has it, run on that input, puts out something else than the good circuit.

@@ -1,4 +1,4 @@
-//! The samples of the paper, on its sample circuit.
+//! The samples of docs/SCOPE.md, on its sample circuit.
 
 use model::*;
 

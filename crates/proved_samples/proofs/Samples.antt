@@ -17,8 +17,8 @@ use Rattle.testsets.specs.Sets.{score, bestOf, best, picks, bound, compactSet, 
 use Rattle.proved_samples.specs.Sample.{sampleWords, sample}
 use Rattle.proved_samples.specs.Table.{states, catching, judged, table, holds}
 
-pub bench-table : holds table ≡ true
+pub every-sample : holds table ≡ true
 unfolding sampleWords sample states catching judged table upFrom keep each some sumFrom bit flip force allOn allOnes linesOn inverse gatesOf
     lessControl moreControl fires step run forward backward forceAt stuckRun without changed faulty caught sites faultOf stuckFaults
     classFaults caughtBySome uncaughtOf verdict log2In log2 score bestOf best picks siteCount bound compactSet backwardInput backwardSet
-bench-table = refl
+every-sample = refl
