@@ -2,12 +2,12 @@
 use Prim.Native.Nat.{ℕ, _+_, _-_, _*_, _/_, _%_, _^_, _<_, _≤_}
 use mathlib.Core.Path.{_≡_, ap}
 use mathlib.Core.Logic.{_≢_}
-use mathlib.Core.Bool.{true, false, not, _||_}
+use mathlib.Core.Bool.{true, false, not}
 use mathlib.Core.List.{List, _++_}
 use native.Mathlib.Omega.{arith}
 use lib.ListN.{length}
 use lib.Dec.{eqb, ltb, leb}
-use borrow.Author.Tests.{ltb-false, leb-false, eqb-true, not-false, lt-ltb, le-ltb, le-leb, lt-leb, eq-eqb, ne-eqb}
+use borrow.Author.Tests.{ltb-false, leb-false, eqb-true, not-false, le-ltb, le-leb, lt-leb, eq-eqb, ne-eqb}
 use Rattle.basics.specs.Lists.{All}
 use Rattle.basics.proofs.Tests.{or-neither, or-false, or-left, or-right}
 use Rattle.basics.proofs.All.{all-map, all-at}
@@ -19,7 +19,8 @@ use Rattle.refusals.proofs.Places.{bad-le, none-bad, none-left}
 use Rattle.circuit.specs.Limits.{mostLines, mostGates, mostVectors}
 use Rattle.circuit.specs.Gates.{gatesOf, noGate, gateAt}
 use Rattle.circuit.specs.Controls.{isControl}
-use Rattle.circuit.specs.Rules.{badLines, badCounts, badGate, firstBadGate, circuitSetRows, circuitRows, firstBadVector, setRows, vectorRows, levelRows, runRows}
+use Rattle.circuit.specs.Rules.{badLines, badCounts, badGate, firstBadGate, firstBadVector}
+use Rattle.circuit.specs.Rules.{circuitSetRows, circuitRows, setRows, vectorRows, levelRows, runRows}
 use Rattle.circuit.specs.Sound.{GateOk, AllOk, Sound}
 use Rattle.circuit.specs.declared.Gate.{Gate}
 use Rattle.circuit.proofs.GateLaws.{gates-count}

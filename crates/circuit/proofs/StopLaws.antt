@@ -1,14 +1,13 @@
 -- Laws of the controls that alone stop a gate.
-use Prim.Native.Nat.{ℕ, zero, suc, _≤_}
-use mathlib.Core.Path.{_≡_, refl, sym, ap, _∙_}
+use Prim.Native.Nat.{ℕ, _≤_}
+use mathlib.Core.Path.{_≡_, sym, ap, _∙_}
 use mathlib.Core.Bool.{Bool, not, _&&_, not-and-self}
-use native.Mathlib.Omega.{arith}
 use lib.Dec.{eqb}
 use borrow.Author.Tests.{eq-eqb}
 use Rattle.basics.proofs.Tests.{by-test}
 use Rattle.basics.proofs.Bools.{fails-more}
 use Rattle.words.specs.Word.{bit}
-use Rattle.words.specs.WordOf.{wordOf, loneZero}
+use Rattle.words.specs.WordOf.{loneZero}
 use Rattle.words.proofs.Inverse.{not-on}
 use Rattle.words.proofs.WordOfLaws.{wordOf-cong, wordOf-wide}
 use Rattle.circuit.specs.Limits.{mostLines}

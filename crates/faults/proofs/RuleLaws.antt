@@ -7,7 +7,7 @@ use mathlib.Core.List.{List, [], _∷_}
 use native.Mathlib.Omega.{arith}
 use lib.ListN.{length}
 use lib.Dec.{eqb, ltb, leb}
-use borrow.Author.Tests.{ltb-true, leb-true, eqb-true, eq-eqb, ne-eqb, lt-ltb, le-ltb, le-leb, lt-leb, not-true, not-false}
+use borrow.Author.Tests.{ltb-true, leb-true, eqb-true, eq-eqb, ne-eqb, lt-ltb, le-ltb, le-leb, not-true, not-false}
 use Rattle.basics.proofs.Tests.{by-test, not-not, and-both, and-true, choice-true, choice-false}
 use Rattle.basics.proofs.All.{all-map}
 use Rattle.words.specs.Word.{bit}
@@ -181,7 +181,12 @@ module _ (n : ℕ) (words list : List ℕ) where
     unfolding entriesRows
     entries-many d h =
         let number = records-count list in
-        rw (← is, eq-eqb bad 0 none, ne-eqb (length (faultsOf list)) 0 (λ e. d (sym number ∙ e)), lt-ltb mostEntries (length (faultsOf list)) (omega arith))
+        rw (
+          ← is,
+          eq-eqb bad 0 none,
+          ne-eqb (length (faultsOf list)) 0 (λ e. d (sym number ∙ e)),
+          lt-ltb mostEntries (length (faultsOf list)) (omega arith),
+        )
 
     pub entries-twice : (twice : Bool) → twice ≡ siteTwice (faultsOf list) → length list / 4 ≢ 0 → length list / 4 ≤ mostEntries
         → firstOf (refuse 13 at 0 when not (not twice) ∷ []) fine ≡ firstOf (entriesRows n words list) fine

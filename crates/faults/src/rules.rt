@@ -165,7 +165,8 @@ pub fn same_site(a: Fault, b: Fault) -> bool
 // Whether a later record names the site of this one.
 pub fn named_again(entries: &[u32], ahead: usize) -> bool
     requires { ⌜ 4 * ahead + 4 ≤ length (now entries) ⌝ }
-    ensures { λ r. ⌜ r ≡ some (sameSite (getD (faultsOf (now (entries .entry))) ahead noFault)) (drop (ahead + 1) (faultsOf (now (entries .entry)))) ⌝ }
+    ensures { λ r. ⌜ r ≡ some (sameSite (getD (faultsOf (now (entries .entry))) ahead noFault))
+        (drop (ahead + 1) (faultsOf (now (entries .entry)))) ⌝ }
 {
     let whole = entries.len() / 4;
     let first = records::record_at(entries, ahead);

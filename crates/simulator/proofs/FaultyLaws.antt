@@ -137,7 +137,8 @@ pub faulty-missing-control : (gs : List Gate) (f : Fault) (x : ℕ) → f .class
     → faulty gs f x ≡ run (changed (lessControl (f .line)) (f .place) gs) x
 unfolding faulty
 faulty-missing-control gs f x e =
-    choice-false (ne-eqb (f .class) 1 (omega arith)) _ _ ∙ choice-false (ne-eqb (f .class) 2 (omega arith)) _ _ ∙ choice-true (eq-eqb (f .class) 3 e) _ _
+    choice-false (ne-eqb (f .class) 1 (omega arith)) _ _ ∙ choice-false (ne-eqb (f .class) 2 (omega arith)) _ _
+    ∙ choice-true (eq-eqb (f .class) 3 e) _ _
 
 pub faulty-extra-control : (gs : List Gate) (f : Fault) (x : ℕ) → f .class ≡ 4 → faulty gs f x ≡ run (changed (moreControl (f .line)) (f .place) gs) x
 unfolding faulty

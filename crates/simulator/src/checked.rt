@@ -11,6 +11,7 @@ ghost use Rattle.circuit.specs.Gates.{gatesOf, gateAt};
 ghost use Rattle.circuit.specs.Controls.{lessControl, moreControl};
 ghost use Rattle.circuit.specs.Runs.{step, run, forward};
 ghost use Rattle.circuit.specs.Sound.{Sound};
+ghost use Rattle.simulator.specs.Shown.{stateRead, outputFrom};
 ghost use Rattle.simulator.specs.Faulty.{forceAt, stuckRun, faulty, caught, caughtTogether};
 ghost use Rattle.faults.specs.Rules.{isFault};
 ghost use Rattle.faults.specs.Records.{faultsOf};
@@ -44,7 +45,8 @@ fn run_rest(lines: u32, gates: &[u32], level: LevelNumber, state: u32) -> u32
 fn run_stuck_at(lines: u32, gates: &[u32], vector: u32, fault: Fault) -> u32
     requires { ⌜ Sound lines (now gates) ⌝ }
     requires { ⌜ (fault .place ≤ length (gatesOf (now gates))) × (fault .line < mostLines) ⌝ }
-    ensures { λ r. ⌜ r ≡ run (drop (fault .place) (gatesOf (now (gates .entry)))) (force (forward (gatesOf (now (gates .entry))) (fault .place) vector) (fault .line) (fault .value)) ⌝ }
+    ensures { λ r. ⌜ r ≡ outputFrom (gatesOf (now (gates .entry))) fault
+        (force (forward (gatesOf (now (gates .entry))) (fault .place) vector) (fault .line) (fault .value)) ⌝ }
 {
     let level = places::level_of(fault);
     let state = run_forward(lines, gates, level, vector);
@@ -60,7 +62,7 @@ fn run_stuck_at(lines: u32, gates: &[u32], vector: u32, fault: Fault) -> u32
 fn run_without(lines: u32, gates: &[u32], vector: u32, fault: Fault) -> u32
     requires { ⌜ Sound lines (now gates) ⌝ }
     requires { ⌜ (1 ≤ fault .place) × (fault .place ≤ length (gatesOf (now gates))) ⌝ }
-    ensures { λ r. ⌜ r ≡ run (drop (fault .place) (gatesOf (now (gates .entry)))) (forward (gatesOf (now (gates .entry))) (fault .place - 1) vector) ⌝ }
+    ensures { λ r. ⌜ r ≡ outputFrom (gatesOf (now (gates .entry))) fault (stateRead (gatesOf (now (gates .entry))) fault vector) ⌝ }
 {
     let gate = places::gate_of(fault);
     let state = run_forward(lines, gates, numbers::level_read(gate), vector);
@@ -72,7 +74,7 @@ fn run_changed(lines: u32, gates: &[u32], vector: u32, fault: Fault, other: Gate
     requires { ⌜ Sound lines (now gates) ⌝ }
     requires { ⌜ (1 ≤ fault .place) × (fault .place ≤ length (gatesOf (now gates))) ⌝ }
     requires { ⌜ other .target < mostLines ⌝ }
-    ensures { λ r. ⌜ r ≡ run (drop (fault .place) (gatesOf (now (gates .entry)))) (step other (forward (gatesOf (now (gates .entry))) (fault .place - 1) vector)) ⌝ }
+    ensures { λ r. ⌜ r ≡ outputFrom (gatesOf (now (gates .entry))) fault (step other (stateRead (gatesOf (now (gates .entry))) fault vector)) ⌝ }
 {
     let gate = places::gate_of(fault);
     let state = run_forward(lines, gates, numbers::level_read(gate), vector);
@@ -127,7 +129,8 @@ fn catches_stuck_at(lines: u32, gates: &[u32], vector: u32, fault: Fault) -> boo
 fn catches_missing_gate(lines: u32, gates: &[u32], vector: u32, fault: Fault) -> bool
     requires { ⌜ Sound lines (now gates) ⌝ }
     requires { ⌜ (1 ≤ fault .place) × (fault .place ≤ length (gatesOf (now gates))) ⌝ }
-    ensures { λ r. ⌜ r ≡ not (eqb (forward (gatesOf (now (gates .entry))) (fault .place - 1) vector) (step (gateAt (gatesOf (now (gates .entry))) (fault .place)) (forward (gatesOf (now (gates .entry))) (fault .place - 1) vector))) ⌝ }
+    ensures { λ r. ⌜ r ≡ not (eqb (stateRead (gatesOf (now (gates .entry))) fault vector)
+        (step (gateAt (gatesOf (now (gates .entry))) (fault .place)) (stateRead (gatesOf (now (gates .entry))) fault vector))) ⌝ }
 {
     let gate = places::gate_of(fault);
     let state = run_forward(lines, gates, numbers::level_read(gate), vector);
@@ -139,7 +142,8 @@ fn catches_changed(lines: u32, gates: &[u32], vector: u32, fault: Fault, other: 
     requires { ⌜ Sound lines (now gates) ⌝ }
     requires { ⌜ (1 ≤ fault .place) × (fault .place ≤ length (gatesOf (now gates))) ⌝ }
     requires { ⌜ other .target < mostLines ⌝ }
-    ensures { λ r. ⌜ r ≡ not (eqb (step other (forward (gatesOf (now (gates .entry))) (fault .place - 1) vector)) (step (gateAt (gatesOf (now (gates .entry))) (fault .place)) (forward (gatesOf (now (gates .entry))) (fault .place - 1) vector))) ⌝ }
+    ensures { λ r. ⌜ r ≡ not (eqb (step other (stateRead (gatesOf (now (gates .entry))) fault vector))
+        (step (gateAt (gatesOf (now (gates .entry))) (fault .place)) (stateRead (gatesOf (now (gates .entry))) fault vector))) ⌝ }
 {
     let gate = places::gate_of(fault);
     let state = run_forward(lines, gates, numbers::level_read(gate), vector);

@@ -14,7 +14,7 @@ use Rattle.circuit.proofs.checked.run_onward.Statement.{statement}
 use Rattle.circuit.proofs.checked.run_onward.Tie as tie
 
 abbrev Inv-loop : tie.InvT-loop
-Inv-loop lines gates state end now₀ i₀ now i = (i₀ ≤ i) × ((i ≤ end) × ((end ≤ length (gatesOf gates)) × (now ≡ onward (gatesOf gates) i₀ i state)))
+Inv-loop lines gates state end now₀ i₀ now i = (now ≡ onward (gatesOf gates) i₀ i state) × (i₀ ≤ i) × (i ≤ end) × (end ≤ length (gatesOf gates))
 
 abbrev μ-loop : tie.MeasureT-loop
 μ-loop lines gates state end now₀ i₀ now i = end - i
@@ -26,7 +26,7 @@ gates-before-requires-2 : tie.Need-gates-before-requires-2 Inv-loop μ-loop
 gates-before-requires-2 c κs = search needs
 
 loop-holds : tie.Need-loop-holds Inv-loop μ-loop
-loop-holds c = (omega arith, (omega arith, (omega arith, sym (onward-none _ _ _))))
+loop-holds c = (sym (onward-none _ _ _), omega arith, omega arith, omega arith)
 
 level-requires : tie.Need-level-requires Inv-loop μ-loop
 level-requires c κs = search needs
@@ -54,15 +54,11 @@ loop-again c =
     let a = l .before .before .before .before .args in
     let gate = c .before .gate-at .ensures ∙ gate-entry (gatesOf (a .gates .now)) (l .loop .i) (c .before .before .gate-after .result .0)
     (omega arith) in (
+      c .step .ensures ∙ rw (gate, l .loop .inv .0)
+          (sym (onward-more (gatesOf (a .gates .now)) (l .before .gates-before2 .result) (l .loop .i) (a .state) (omega arith) (omega arith))),
       omega arith,
-      (
-        omega arith,
-        (
-          omega arith,
-          c .step .ensures ∙ rw (gate, l .loop .inv .1 .1 .1)
-              (sym (onward-more (gatesOf (a .gates .now)) (l .before .gates-before2 .result) (l .loop .i) (a .state) (omega arith) (omega arith))),
-        ),
-      ),
+      omega arith,
+      omega arith,
     )
 
 returns : tie.Need-returns Inv-loop μ-loop
@@ -71,7 +67,7 @@ returns c =
     let a = l .before .before .before .before .args in
     let first : l .before .gates-before2 .result ≡ a .from .0 = l .before .gates-before2 .ensures in
     let last : l .loop .i ≡ a .to .0 = omega arith in
-    l .loop .inv .1 .1 .1 ∙ rw (first, last)
+    l .loop .inv .0 ∙ rw (first, last)
 
 pub run-onward-spec : {M : Type 1} → statement M
 run-onward-spec =

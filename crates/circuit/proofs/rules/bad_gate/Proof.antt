@@ -23,8 +23,9 @@ is-control-requires c κs = search needs
 
 returns-4 : tie.Need-returns-4
 returns-4 c =
-    let a = c .before .before .before .before .before .args in
-    let small = ltb-true _ _ (sym (c .before .before .before .before .below .ensures) ∙ not-false _ (c .before .before .before .if1 .left)) in
+    let on-lines = c .before .before .before in
+    let a = on-lines .before .before .args in
+    let small = ltb-true _ _ (sym (on-lines .before .below .ensures) ∙ not-false _ (on-lines .if1 .left)) in
     c .is-control .ensures ∙ bad-last (a .lines) (a .gate) small (c .before .before .if2 .left) (c .before .if3 .left)
 
 pub bad-gate-spec : {M : Type 1} → statement M

@@ -36,25 +36,31 @@ first-bad-vector-requires c κs =
 
 cast-t9 : tie.Need-cast-t9
 cast-t9 c =
-    let a = c .before .before .before .before .before .before .before .args in
+    let told = c .before .before in
+    let checked = told .before .before in
+    let a = checked .before .before .before .args in
     let ok = circuit-set-ok (a .lines) (a .gates .now) (length (a .vectors .now))
-    (ap found (sym (c .before .before .enum-told .given .1)) ∙ c .before .before .before .before .check-circuit-set .ensures) in
+    (ap found (sym (told .enum-told .given .1)) ∙ checked .check-circuit-set .ensures) in
     let small = first-vector-le (a .lines) (a .vectors .now) in
     record { fits = omega arith }
 
 returns-2 : tie.Need-returns-2
 unfolding setRows
 returns-2 c =
-    let a = c .before .before .before .before .before .before .before .args in
-    let passed = ap found (sym (c .before .before .enum-told .given .1)) ∙ c .before .before .before .before .check-circuit-set .ensures in
+    let told = c .before .before in
+    let checked = told .before .before in
+    let a = checked .before .before .before .args in
+    let passed = ap found (sym (told .enum-told .given .1)) ∙ checked .check-circuit-set .ensures in
     sym (fine-on (circuitSetRows (a .lines) (a .gates .now) (length (a .vectors .now))) _ fine passed
     ∙ rw (← c .before .first-bad-vector .ensures, ne-eqb _ _ (c .if1 .taken)))
 
 returns-3 : tie.Need-returns-3
 unfolding setRows
 returns-3 c =
-    let a = c .before .before .before .before .before .before .before .args in
-    let passed = ap found (sym (c .before .before .enum-told .given .1)) ∙ c .before .before .before .before .check-circuit-set .ensures in
+    let told = c .before .before in
+    let checked = told .before .before in
+    let a = checked .before .before .before .args in
+    let passed = ap found (sym (told .enum-told .given .1)) ∙ checked .check-circuit-set .ensures in
     sym (fine-on (circuitSetRows (a .lines) (a .gates .now) (length (a .vectors .now))) _ fine passed
     ∙ rw (← c .before .first-bad-vector .ensures, eq-eqb _ _ (c .if1 .left)))
 

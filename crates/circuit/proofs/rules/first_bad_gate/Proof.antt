@@ -1,8 +1,7 @@
 -- `circuit::rules::first_bad_gate` meets its contract: each turn passes a good gate, so that the first bad one of what is left is that of the whole.
 -- Assumes nothing.
-use Prim.Native.Nat.{_/_}
+use Prim.Native.Nat.{_/_, _+_, _-_, _%_, _≤_}
 use borrow.Author.Tests.{eq-eqb, ne-eqb}
-use Prim.Native.Nat.{_+_, _-_, _%_, _≤_}
 use mathlib.Core.Path.{_≡_, refl, ap, sym, _∙_}
 use mathlib.Core.Bool.{not}
 use native.Mathlib.Omega.{arith}

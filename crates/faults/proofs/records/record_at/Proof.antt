@@ -1,4 +1,4 @@
--- `simulator::records::record_at` meets its contract: a record has four words of the list. Assumes nothing.
+-- `faults::records::record_at` meets its contract: a record has four words of the list. Assumes nothing.
 use Rattle.faults.proofs.RecordLaws.{record-words}
 use borrow.Author.Needs.{needs}
 use Rattle.faults.proofs.records.record_at.Statement.{statement}

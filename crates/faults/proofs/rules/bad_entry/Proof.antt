@@ -1,4 +1,4 @@
--- `simulator::rules::bad_entry` meets its contract: an entry is a fault of class 1. Assumes nothing.
+-- `faults::rules::bad_entry` meets its contract: an entry is a fault of class 1. Assumes nothing.
 use borrow.Author.Tests.{eq-eqb, ne-eqb}
 use Rattle.faults.specs.Multiple.{badEntry}
 use borrow.Author.Needs.{needs}

@@ -1,4 +1,4 @@
--- `simulator::rules::check_entries` meets its contract: rule 9 is asked of every record first, then the three parts of rule 13. Assumes nothing.
+-- `faults::rules::check_entries` meets its contract: rule 9 is asked of every record first, then the three parts of rule 13. Assumes nothing.
 use mathlib.Core.Path.{_∙_}
 use Rattle.faults.proofs.RuleLaws.{entries-bad, entries-none, entries-many, entries-twice}
 use borrow.Author.Needs.{needs}
@@ -26,9 +26,10 @@ returns-2 c =
 
 returns-3 : tie.Need-returns-3
 returns-3 c =
-    let a = c .before .before .before .before .before .before .args in
-    entries-many (a .lines) (a .gates .now) (a .entries .now) (c .before .before .before .first-bad-entry .result)
-    (c .before .before .before .first-bad-entry .ensures) (c .before .before .if1 .left) (c .before .if2 .left) (c .if3 .taken)
+    let sought = c .before .before .before in
+    let a = sought .before .before .before .args in
+    entries-many (a .lines) (a .gates .now) (a .entries .now) (sought .first-bad-entry .result) (sought .first-bad-entry .ensures)
+    (c .before .before .if1 .left) (c .before .if2 .left) (c .if3 .taken)
 
 site-twice-requires : tie.Need-site-twice-requires
 site-twice-requires c κs = search needs
@@ -38,11 +39,12 @@ unless-requires c κs = search needs
 
 returns-4 : tie.Need-returns-4
 returns-4 c =
-    let a = c .before .before .before .before .before .before .before .before .args in
-    c .unless .ensures ∙ entries-twice (a .lines) (a .gates .now) (a .entries .now)
-    (c .before .before .before .before .before .first-bad-entry .result) (c .before .before .before .before .before .first-bad-entry .ensures)
-    (c .before .before .before .before .if1 .left) (c .before .site-twice .result) (c .before .site-twice .ensures)
-    (c .before .before .before .if2 .left) (c .before .before .if3 .left)
+    let few = c .before .before in
+    let sought = few .before .before .before in
+    let a = sought .before .before .before .args in
+    c .unless .ensures ∙ entries-twice (a .lines) (a .gates .now) (a .entries .now) (sought .first-bad-entry .result)
+    (sought .first-bad-entry .ensures) (few .before .before .if1 .left) (c .before .site-twice .result) (c .before .site-twice .ensures)
+    (few .before .if2 .left) (few .if3 .left)
 
 pub check-entries-spec : {M : Type 1} → statement M
 check-entries-spec =

@@ -1,4 +1,4 @@
--- `simulator::rules::check_fault` meets its contract: each class has its own test, and a number that is no class has none. Assumes nothing.
+-- `faults::rules::check_fault` meets its contract: each class has its own test, and a number that is no class has none. Assumes nothing.
 use mathlib.Core.Path.{_≡_, sym, _∙_}
 use native.Mathlib.Omega.{arith}
 use Rattle.circuit.specs.Gates.{gatesOf}

@@ -1,4 +1,4 @@
--- `simulator::rules::first_bad_entry` meets its contract: each turn passes an entry, so that the first bad record of what is left is that of
+-- `faults::rules::first_bad_entry` meets its contract: each turn passes an entry, so that the first bad record of what is left is that of
 -- the whole. Assumes nothing.
 use Prim.Native.Nat.{_≤_, _+_, _-_, _/_, _%_}
 use mathlib.Core.Path.{_≡_, refl, ap, sym, _∙_}

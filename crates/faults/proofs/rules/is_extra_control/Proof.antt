@@ -1,6 +1,5 @@
 -- `faults::rules::is_extra_control` meets its contract: each test is one of the fields of an extra control. Assumes nothing.
-use mathlib.Core.Path.{_≡_, sym, _∙_}
-use mathlib.Core.Bool.{true}
+use mathlib.Core.Path.{_≡_, sym, ap, _∙_}
 use native.Mathlib.Omega.{arith}
 use borrow.Author.Tests.{lt-ltb, le-ltb, not-true, not-false}
 use borrow.Author.Needs.{needs}
@@ -23,7 +22,8 @@ unfolding isExtraControl
 returns c =
     let asked = c .before in
     let a = asked .before .before .before .args in
-    let gate : isGate (gatesOf (a .gates .now)) (a .fault .place) ≡ asked .is-gate .result = cc in
+    let gate : isGate (gatesOf (a .gates .now)) (a .fault .place) ≡ asked .is-gate .result =
+    sym (asked .is-gate .ensures ∙ ap (isGate (gatesOf (a .gates .now))) (asked .before .gate-of .ensures)) in
     rw (gate, not-true (asked .is-gate .result) (c .if1 .taken))
 
 returns-2 : tie.Need-returns-2
@@ -33,7 +33,8 @@ returns-2 c =
     let start = asked .before .before .before in
     let a = start .args in
     let gs = gatesOf (a .gates .now) in
-    let gate : isGate gs (a .fault .place) ≡ asked .is-gate .result = cc in
+    let gate : isGate gs (a .fault .place) ≡ asked .is-gate .result =
+    sym (asked .is-gate .ensures ∙ ap (isGate gs) (asked .before .gate-of .ensures)) in
     let there = gate ∙ not-false (asked .is-gate .result) (c .before .if1 .left) in
     rw (there, le-ltb (a .fault .line) (a .lines) (c .if2 .taken))
 
@@ -55,7 +56,8 @@ returns-3 c =
     let asked = named .before in
     let a = asked .before .before .before .args in
     let gs = gatesOf (a .gates .now) in
-    let gate : isGate gs (a .fault .place) ≡ asked .is-gate .result = cc in
+    let gate : isGate gs (a .fault .place) ≡ asked .is-gate .result =
+    sym (asked .is-gate .ensures ∙ ap (isGate gs) (asked .before .gate-of .ensures)) in
     let other : isOther (gateAt gs (a .fault .place)) (a .fault .line) ≡ c .before .is-other .result = cc in
     rw (
       gate,
@@ -73,7 +75,8 @@ returns-4 c =
     let asked = named .before in
     let a = asked .before .before .before .args in
     let gs = gatesOf (a .gates .now) in
-    let gate : isGate gs (a .fault .place) ≡ asked .is-gate .result = cc in
+    let gate : isGate gs (a .fault .place) ≡ asked .is-gate .result =
+    sym (asked .is-gate .ensures ∙ ap (isGate gs) (asked .before .gate-of .ensures)) in
     let other : isOther (gateAt gs (a .fault .place)) (a .fault .line) ≡ tested .is-other .result = cc in
     rw (
       gate,

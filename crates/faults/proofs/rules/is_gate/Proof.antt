@@ -1,9 +1,7 @@
 -- `faults::rules::is_gate` meets its contract: gates are numbered from 1 to the last. Assumes nothing.
 use native.Mathlib.Omega.{arith}
-use lib.ListN.{length}
 use borrow.Author.Tests.{le-leb, lt-leb}
 use borrow.Author.Needs.{needs}
-use Rattle.circuit.specs.Gates.{gatesOf}
 use Rattle.circuit.proofs.GateLaws.{gates-count}
 use Rattle.faults.specs.Rules.{isGate}
 use Rattle.faults.proofs.rules.is_gate.Statement.{statement}

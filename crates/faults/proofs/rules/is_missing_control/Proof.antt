@@ -1,6 +1,5 @@
 -- `faults::rules::is_missing_control` meets its contract: each test is one of the fields of a missing control. Assumes nothing.
-use mathlib.Core.Path.{_≡_, sym, _∙_}
-use mathlib.Core.Bool.{true}
+use mathlib.Core.Path.{_≡_, sym, ap, _∙_}
 use native.Mathlib.Omega.{arith}
 use borrow.Author.Tests.{not-true, not-false}
 use borrow.Author.Needs.{needs}
@@ -25,7 +24,8 @@ unfolding isMissingControl
 returns c =
     let asked = c .before in
     let a = asked .before .before .before .args in
-    let gate : isGate (gatesOf (a .gates .now)) (a .fault .place) ≡ asked .is-gate .result = cc in
+    let gate : isGate (gatesOf (a .gates .now)) (a .fault .place) ≡ asked .is-gate .result =
+    sym (asked .is-gate .ensures ∙ ap (isGate (gatesOf (a .gates .now))) (asked .before .gate-of .ensures)) in
     rw (gate, not-true (asked .is-gate .result) (c .if1 .taken))
 
 returns-2 : tie.Need-returns-2
@@ -35,7 +35,8 @@ returns-2 c =
     let start = asked .before .before .before in
     let a = start .args in
     let gs = gatesOf (a .gates .now) in
-    let gate : isGate gs (a .fault .place) ≡ asked .is-gate .result = cc in
+    let gate : isGate gs (a .fault .place) ≡ asked .is-gate .result =
+    sym (asked .is-gate .ensures ∙ ap (isGate gs) (asked .before .gate-of .ensures)) in
     let there = gate ∙ not-false (asked .is-gate .result) (c .before .if1 .left) in
     let place = gate-in gs (a .fault .place) there in
     rw (
@@ -62,7 +63,8 @@ returns-3 c =
     let asked = named .before in
     let a = asked .before .before .before .args in
     let gs = gatesOf (a .gates .now) in
-    let gate : isGate gs (a .fault .place) ≡ asked .is-gate .result = cc in
+    let gate : isGate gs (a .fault .place) ≡ asked .is-gate .result =
+    sym (asked .is-gate .ensures ∙ ap (isGate gs) (asked .before .gate-of .ensures)) in
     let control : isControl (gateAt gs (a .fault .place)) (a .fault .line) ≡ c .before .is-control .result = cc in
     rw (gate, not-false (asked .is-gate .result) (named .if1 .left), control, not-true (c .before .is-control .result) (c .if3 .taken))
 
@@ -74,7 +76,8 @@ returns-4 c =
     let asked = named .before in
     let a = asked .before .before .before .args in
     let gs = gatesOf (a .gates .now) in
-    let gate : isGate gs (a .fault .place) ≡ asked .is-gate .result = cc in
+    let gate : isGate gs (a .fault .place) ≡ asked .is-gate .result =
+    sym (asked .is-gate .ensures ∙ ap (isGate gs) (asked .before .gate-of .ensures)) in
     let control : isControl (gateAt gs (a .fault .place)) (a .fault .line) ≡ tested .is-control .result = cc in
     rw (gate, not-false (asked .is-gate .result) (named .if1 .left), control, not-false (tested .is-control .result) (c .before .if3 .left))
 

@@ -1,5 +1,5 @@
 -- `faults::rules::is_missing_gate` meets its contract: each test is one of the fields of a missing gate. Assumes nothing.
-use mathlib.Core.Path.{_≡_}
+use mathlib.Core.Path.{_≡_, sym, ap, _∙_}
 use borrow.Author.Tests.{eq-eqb, ne-eqb, not-true, not-false}
 use borrow.Author.Needs.{needs}
 use Rattle.circuit.specs.Gates.{gatesOf}
@@ -18,7 +18,8 @@ unfolding isMissingGate
 returns c =
     let asked = c .before in
     let a = asked .before .before .before .args in
-    let gate : isGate (gatesOf (a .gates .now)) (a .fault .place) ≡ asked .is-gate .result = cc in
+    let gate : isGate (gatesOf (a .gates .now)) (a .fault .place) ≡ asked .is-gate .result =
+    sym (asked .is-gate .ensures ∙ ap (isGate (gatesOf (a .gates .now))) (asked .before .gate-of .ensures)) in
     rw (gate, not-true (asked .is-gate .result) (c .if1 .taken))
 
 returns-2 : tie.Need-returns-2
@@ -26,7 +27,8 @@ unfolding isMissingGate
 returns-2 c =
     let asked = c .before .before .before in
     let a = asked .before .before .before .args in
-    let gate : isGate (gatesOf (a .gates .now)) (a .fault .place) ≡ asked .is-gate .result = cc in
+    let gate : isGate (gatesOf (a .gates .now)) (a .fault .place) ≡ asked .is-gate .result =
+    sym (asked .is-gate .ensures ∙ ap (isGate (gatesOf (a .gates .now))) (asked .before .gate-of .ensures)) in
     rw (gate, not-false (asked .is-gate .result) (c .before .before .if1 .left), ne-eqb _ _ (c .if2 .taken))
 
 returns-3 : tie.Need-returns-3
@@ -35,7 +37,8 @@ returns-3 c =
     let named = c .before .before .before in
     let asked = named .before in
     let a = asked .before .before .before .args in
-    let gate : isGate (gatesOf (a .gates .now)) (a .fault .place) ≡ asked .is-gate .result = cc in
+    let gate : isGate (gatesOf (a .gates .now)) (a .fault .place) ≡ asked .is-gate .result =
+    sym (asked .is-gate .ensures ∙ ap (isGate (gatesOf (a .gates .now))) (asked .before .gate-of .ensures)) in
     rw (gate, not-false (asked .is-gate .result) (named .if1 .left), eq-eqb _ _ (c .before .if2 .left))
 
 pub is-missing-gate-spec : {M : Type 1} → statement M

@@ -1,4 +1,4 @@
--- `simulator::rules::named_again` meets its contract: each turn passes a record of another site. Assumes nothing.
+-- `faults::rules::named_again` meets its contract: each turn passes a record of another site. Assumes nothing.
 use Prim.Native.Nat.{_-_}
 use mathlib.Core.Path.{_≡_, refl, ap, sym, _∙_}
 use native.Mathlib.Omega.{arith}

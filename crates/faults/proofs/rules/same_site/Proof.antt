@@ -1,4 +1,4 @@
--- `simulator::rules::same_site` meets its contract: a site is a level and a line. Assumes nothing.
+-- `faults::rules::same_site` meets its contract: a site is a level and a line. Assumes nothing.
 use borrow.Author.Tests.{eq-eqb, ne-eqb}
 use Rattle.faults.specs.Multiple.{sameSite}
 use Rattle.faults.proofs.rules.same_site.Statement.{statement}

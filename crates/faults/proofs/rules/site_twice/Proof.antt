@@ -1,4 +1,4 @@
--- `simulator::rules::site_twice` meets its contract: each turn passes a record whose site no later one names. Assumes nothing.
+-- `faults::rules::site_twice` meets its contract: each turn passes a record whose site no later one names. Assumes nothing.
 use Prim.Native.Nat.{_-_}
 use mathlib.Core.Path.{_≡_, refl, sym, _∙_}
 use native.Mathlib.Omega.{arith}

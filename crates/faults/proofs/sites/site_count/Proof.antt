@@ -4,6 +4,7 @@ use mathlib.Core.Path.{_≡_, ap, _∙_}
 use native.Mathlib.Omega.{arith}
 use borrow.Author.Needs.{needs}
 use lib.ListN.{length}
+use Rattle.circuit.specs.Limits.{mostLines}
 use Rattle.circuit.specs.Gates.{gatesOf}
 use Rattle.circuit.proofs.GateLaws.{gates-count}
 use Rattle.words.proofs.AndLaws.{length-lines-le}
@@ -14,8 +15,8 @@ use Rattle.faults.proofs.sites.site_count.Tie as tie
 
 abbrev Inv-loop : tie.InvT-loop
 Inv-loop lines gates end sum₀ i₀ sum i =
-    (end ≡ length (gatesOf gates) + 1) × ((i ≤ end)
-    × ((sum ≤ 32 * i) × (siteCount lines (gatesOf gates) ≡ sum + sitesFrom lines (gatesOf gates) i)))
+    (siteCount lines (gatesOf gates) ≡ sum + sitesFrom lines (gatesOf gates) i) × (sum ≤ mostLines * i) × (i ≤ end)
+    × (end ≡ length (gatesOf gates) + 1)
 
 abbrev μ-loop : tie.MeasureT-loop
 μ-loop lines gates end sum₀ i₀ sum i = end - i
@@ -26,7 +27,7 @@ add-end c = omega arith
 loop-holds : tie.Need-loop-holds Inv-loop μ-loop
 loop-holds c =
     let a = c .before .args in
-    (omega (arith, gates-count (a .gates .now)), (omega arith, (omega arith, omega (arith, sites-all (a .lines) (gatesOf (a .gates .now))))))
+    (omega (arith, sites-all (a .lines) (gatesOf (a .gates .now))), omega arith, omega arith, omega (arith, gates-count (a .gates .now)))
 
 level-requires : tie.Need-level-requires Inv-loop μ-loop
 level-requires c κs = search needs
@@ -53,7 +54,7 @@ loop-again c =
     let fit = length-lines-le 32 (c .before .sites-at .result) in
     let more = sites-more (a .lines) (gatesOf (a .gates .now)) (l .loop .i) _ (omega arith) (omega arith)
     (c .before .sites-at .ensures ∙ ap (sites (a .lines) (gatesOf (a .gates .now))) (c .before .before .level .ensures)) in
-    (l .loop .inv .0, (omega arith, (omega (arith, c .ones .ensures), omega (arith, c .ones .ensures))))
+    (omega (arith, c .ones .ensures), omega (arith, c .ones .ensures), omega arith, l .loop .inv .3)
 
 returns : tie.Need-returns Inv-loop μ-loop
 returns c =

@@ -1,4 +1,4 @@
--- `simulator::rules::sites_at` meets its contract: every line is a site. Assumes nothing.
+-- `faults::sites::sites_at` meets its contract: every line is a site. Assumes nothing.
 use Rattle.faults.specs.Sites.{sites}
 use borrow.Author.Needs.{needs}
 use Rattle.faults.proofs.sites.sites_at.Statement.{statement}

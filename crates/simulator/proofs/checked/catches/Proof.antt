@@ -5,7 +5,8 @@ use native.Mathlib.Omega.{arith}
 use Rattle.circuit.specs.Gates.{gatesOf}
 use Rattle.circuit.specs.Controls.{lessControl, moreControl}
 use Rattle.faults.proofs.ClassLaws.{stuck-fault, names-gate, names-both, less-target, more-target}
-use Rattle.simulator.proofs.FaultyLaws.{stuck-caught, without-caught, changed-caught, none-caught, faulty-missing-control, faulty-extra-control}
+use Rattle.simulator.proofs.FaultyLaws.{stuck-caught, without-caught, changed-caught, none-caught}
+use Rattle.simulator.proofs.FaultyLaws.{faulty-missing-control, faulty-extra-control}
 use Rattle.simulator.proofs.checked.catches.Statement.{statement}
 use Rattle.simulator.proofs.checked.catches.Tie as tie
 

@@ -9,8 +9,8 @@ use Rattle.circuit.specs.Runs.{run}
 use Rattle.circuit.specs.Controls.{lessControl, moreControl}
 use Rattle.simulator.specs.Faulty.{faulty}
 use Rattle.faults.proofs.ClassLaws.{stuck-fault, names-gate, names-both, less-target, more-target}
-use Rattle.simulator.proofs.FaultyLaws.{faulty-stuck, stuck-one, faulty-missing-gate, run-without, faulty-missing-control, faulty-extra-control}
-use Rattle.simulator.proofs.FaultyLaws.{run-changed, faulty-none}
+use Rattle.simulator.proofs.FaultyLaws.{faulty-stuck, stuck-one, faulty-missing-gate, run-without, faulty-missing-control}
+use Rattle.simulator.proofs.FaultyLaws.{faulty-extra-control, run-changed, faulty-none}
 use Rattle.simulator.proofs.checked.faulty_run.Statement.{statement}
 use Rattle.simulator.proofs.checked.faulty_run.Tie as tie
 

@@ -13,7 +13,8 @@ use Rattle.simulator.proofs.checked.force_level.Statement.{statement}
 use Rattle.simulator.proofs.checked.force_level.Tie as tie
 
 abbrev Inv-loop : tie.InvT-loop
-Inv-loop lines gates entries level state whole now₀ i₀ now i = forceAt (faultsOf entries) (level .0) state ≡ forceAt (drop i (faultsOf entries)) (level .0) now
+Inv-loop lines gates entries level state whole now₀ i₀ now i =
+    forceAt (faultsOf entries) (level .0) state ≡ forceAt (drop i (faultsOf entries)) (level .0) now
 
 abbrev μ-loop : tie.MeasureT-loop
 μ-loop lines gates entries level state whole now₀ i₀ now i = whole - i

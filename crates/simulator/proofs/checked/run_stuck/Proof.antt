@@ -18,14 +18,15 @@ use Rattle.simulator.proofs.checked.run_stuck.Tie as tie
 
 abbrev Inv-loop : tie.InvT-loop
 Inv-loop lines gates entries vector end good₀ faulty₀ i₀ good faulty i =
-    (end ≡ length (gatesOf gates)) × ((i ≤ end) × ((good ≡ forward (gatesOf gates) i vector)
-    × (stuckRun (faultsOf entries) 0 (gatesOf gates) vector ≡ stuckRun (faultsOf entries) i (drop i (gatesOf gates)) faulty)))
+    (good ≡ forward (gatesOf gates) i vector)
+    × (stuckRun (faultsOf entries) 0 (gatesOf gates) vector ≡ stuckRun (faultsOf entries) i (drop i (gatesOf gates)) faulty)
+    × (i ≤ end) × (end ≡ length (gatesOf gates))
 
 abbrev μ-loop : tie.MeasureT-loop
 μ-loop lines gates entries vector end good₀ faulty₀ i₀ good faulty i = end - i
 
 loop-holds : tie.Need-loop-holds Inv-loop μ-loop
-loop-holds c = (sym (gates-count _), (search needs, (sym (forward-none _ _), refl)))
+loop-holds c = (sym (forward-none _ _), refl, search needs, sym (gates-count _))
 
 level-requires : tie.Need-level-requires Inv-loop μ-loop
 level-requires c κs = search needs
@@ -68,15 +69,11 @@ loop-again c =
     let reached = c .before .before .before .before in
     let forced = reached .force-faulty .ensures in
     let here : reached .before .level .result .0 ≡ i = reached .before .level .ensures in (
-      l .loop .inv .0,
-      (
-        omega arith,
-        (
-          c .before .step .ensures ∙ rw (gate, forced .0) (good-more gs i (a .vector) (l .loop .good) (omega arith) (l .loop .inv .1 .1 .0)),
-          l .loop .inv .1 .1 .1 ∙ stuck-more fs gs i (l .loop .faulty) (omega arith)
-              ∙ ap (stuckRun fs (i + 1) (drop (i + 1) gs)) (sym (c .step2 .ensures ∙ rw (gate, forced .1, here))),
-        ),
-      ),
+      c .before .step .ensures ∙ rw (gate, forced .0) (good-more gs i (a .vector) (l .loop .good) (omega arith) (l .loop .inv .0)),
+      l .loop .inv .1 ∙ stuck-more fs gs i (l .loop .faulty) (omega arith)
+          ∙ ap (stuckRun fs (i + 1) (drop (i + 1) gs)) (sym (c .step2 .ensures ∙ rw (gate, forced .1, here))),
+      omega arith,
+      l .loop .inv .3,
     )
 
 level-requires-2 : tie.Need-level-requires-2 Inv-loop μ-loop
@@ -95,8 +92,8 @@ returns c =
     let last : i ≡ length (a .gates .now) / 3 = omega arith in
     let all : i ≡ length gs = omega arith in
     let forced = c .force-faulty2 .ensures in (
-      forced .0 ∙ l .loop .inv .1 .1 .0 ∙ rw all (forward-all gs (a .vector)),
-      forced .1 ∙ rw (c .before .level2 .ensures) (sym (l .loop .inv .1 .1 .1 ∙ stuck-end fs gs i (l .loop .faulty) (omega arith) ∙ rw last)),
+      forced .0 ∙ l .loop .inv .0 ∙ rw all (forward-all gs (a .vector)),
+      forced .1 ∙ rw (c .before .level2 .ensures) (sym (l .loop .inv .1 ∙ stuck-end fs gs i (l .loop .faulty) (omega arith) ∙ rw last)),
     )
 
 pub run-stuck-spec : {M : Type 1} → statement M

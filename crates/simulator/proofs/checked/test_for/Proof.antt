@@ -32,7 +32,8 @@ unfolding testFor
 returns c =
     let branch = c .before .before in
     let a = branch .before .before .before .before .args in
-    let level : c .before .level-of .result .0 ≡ testLevel (a .fault) = c .before .level-of .ensures ∙ sym (level-stuck (a .fault) (branch .if1 .taken)) in
+    let level : c .before .level-of .result .0 ≡ testLevel (a .fault) =
+    c .before .level-of .ensures ∙ sym (level-stuck (a .fault) (branch .if1 .taken)) in
     c .run-backward .ensures ∙ rw (level, branch .before .before .test-state .ensures)
 
 gate-of-requires : tie.Need-gate-of-requires
