@@ -1,7 +1,7 @@
 -- Laws of the words of what is left: the score of a vector level by level, and what a vector leaves.
 use Prim.Native.Nat.{ℕ, zero, suc, _+_, _-_, _^_, _≤_, _<_}
 use mathlib.Core.Path.{_≡_, sym, ap, ap₂, _∙_}
-use mathlib.Core.Bool.{Bool, true, false, not, _&&_, _||_}
+use mathlib.Core.Bool.{Bool, true, false, not, _&&_, _||_, or-false}
 use mathlib.Core.List.{List, [], _∷_}
 use native.Mathlib.Omega.{arith}
 use lib.Bits.{bitAnd, bitOr, bitXor}
@@ -17,7 +17,6 @@ use Rattle.basics.proofs.SumLaws.{sum-cong, sum-more, sum-end}
 use Rattle.words.specs.Word.{bit, allOnes, linesOn}
 use Rattle.words.specs.Inverse.{inverse}
 use Rattle.words.specs.WordOf.{lacking}
-use Rattle.words.proofs.Bits.{by-bit}
 use Rattle.words.proofs.Inverse.{not-off, not-on, inverse-code}
 use Rattle.words.proofs.LineLists.{all-lines}
 use Rattle.words.proofs.OrLaws.{on-and}
@@ -121,10 +120,10 @@ module _ (n : ℕ) (gs : List Gate) (ok : AllOk n gs) (at0 at1 : List ℕ) where
   -- ---- what a vector leaves
 
   not-caught : (b : Bool) (s j : ℕ) → b ≡ eqb (bit s j) 1 → not (b || false) ≡ eqb (bit s j) 0
-  not-caught b s j e = ap (λ c. not (c || false)) e ∙ by-bit s j (λ q. rw q) (λ q. rw q)
+  not-caught b s j e = ap not (or-false b ∙ e) ∙ not-on s j
 
   not-caught-one : (b : Bool) (s j : ℕ) → b ≡ eqb (bit s j) 0 → not (b || false) ≡ eqb (bit s j) 1
-  not-caught-one b s j e = ap (λ c. not (c || false)) e ∙ by-bit s j (λ q. rw q) (λ q. rw q)
+  not-caught-one b s j e = ap not (or-false b ∙ e) ∙ not-off s j
 
   module _ (x : ℕ) (now0 now1 : List ℕ)
       (zeros : Changed (λ k w. lacking w (forward gs k x)) (suc (length gs)) at0 now0)

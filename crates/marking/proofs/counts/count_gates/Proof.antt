@@ -3,11 +3,9 @@
 use Prim.Native.Nat.{_+_, _-_, _≤_}
 use mathlib.Core.Path.{_≡_, sym, ap, _∙_}
 use native.Mathlib.Omega.{arith}
-use lib.ListN.{length, getD}
-use lib.Bits.{bitAnd}
+use lib.ListN.{length}
 use borrow.Author.Needs.{needs}
 use Rattle.basics.specs.Lists.{keep}
-use Rattle.words.specs.Word.{linesOn}
 use Rattle.circuit.specs.Gates.{gatesOf}
 use Rattle.circuit.specs.Limits.{mostLines}
 use Rattle.circuit.proofs.GateLaws.{gates-count}
@@ -81,7 +79,7 @@ loop-again c =
     let lines = lined .gate-lines .ensures ∙ ap (gateLines (a .lines) gs (a .class)) number in (
       l .loop .inv .0,
       adding-more _ _ _ (l .loop .sum) i (l .loop .inv .1) _ (turn .loop-test .taken)
-          (c .ones .ensures ∙ ap (λ m. length (linesOn mostLines (bitAnd (getD (a .marks .now) i 0) m))) lines) (omega arith),
+          (rw lines at (c .ones .ensures)) (omega arith),
     )
 
 returns : tie.Need-returns Inv-loop μ-loop

@@ -2,11 +2,9 @@
 use Prim.Native.Nat.{_+_, _-_, _≤_}
 use mathlib.Core.Path.{ap, ap₂, _∙_}
 use native.Mathlib.Omega.{arith}
-use lib.ListN.{length, getD}
-use lib.Bits.{bitAnd}
+use lib.ListN.{length}
 use borrow.Author.Needs.{needs}
 use Rattle.basics.specs.Lists.{keep}
-use Rattle.words.specs.Word.{linesOn}
 use Rattle.circuit.specs.Gates.{gatesOf}
 use Rattle.circuit.specs.Limits.{mostLines}
 use Rattle.circuit.proofs.GateLaws.{gates-count}
@@ -90,8 +88,7 @@ loop-again c =
     let few2 : c .ones2 .result ≤ mostLines = rw (c .ones2 .ensures) (ones-le _) in
     let here = found .sites-at .ensures ∙ ap (sites (a .lines) gs) (found .before .level .ensures) in
     adding-more _ _ _ (l .loop .sum) i (l .loop .inv) _ (turn .loop-test .taken)
-    (ap₂ _+_ (first .ones .ensures ∙ ap (λ m. length (linesOn mostLines (bitAnd (getD (a .at-0 .now) i 0) m))) here)
-    (c .ones2 .ensures ∙ ap (λ m. length (linesOn mostLines (bitAnd (getD (a .at-1 .now) i 0) m))) here))
+    (ap₂ _+_ (rw here at (first .ones .ensures)) (rw here at (c .ones2 .ensures)))
     (omega arith)
 
 returns : tie.Need-returns Inv-loop μ-loop

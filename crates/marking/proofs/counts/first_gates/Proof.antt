@@ -79,7 +79,7 @@ returns c =
     let i = l .loop .i in
     let number : numbered .gate-after .result .0 ≡ i + 1 = omega arith in
     let lines = lined .gate-lines .ensures ∙ ap (gateLines (a .lines) gs (a .class)) number in
-    let lacks = lacked .lacking .ensures ∙ ap (λ m. lacking m (getD (a .marks .now) i 0)) lines in
+    let lacks = rw lines at (lacked .lacking .ensures) in
     rw (c .before .told-gate .ensures ∙ number, c .lowest .ensures ∙ ap (λ w. getD (linesOn mostLines w) 0 0) lacks)
     (sym (ap firstTold (l .loop .inv .1 .1)
     ∙ gate-found (a .lines) gs (a .class) (a .marks .now) i _ (turn .loop-test .taken) (start .pre .0 .lines-fit)
@@ -103,7 +103,7 @@ loop-again c =
     let i = l .loop .i in
     let number : numbered .gate-after .result .0 ≡ i + 1 = omega arith in
     let lines = lined .gate-lines .ensures ∙ ap (gateLines (a .lines) gs (a .class)) number in
-    let lacks = lacked .lacking .ensures ∙ ap (λ m. lacking m (getD (a .marks .now) i 0)) lines in (
+    let lacks = rw lines at (lacked .lacking .ensures) in (
       l .loop .inv .0,
       (
         l .loop .inv .1 .0,

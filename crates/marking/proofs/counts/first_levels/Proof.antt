@@ -3,7 +3,6 @@
 use Prim.Native.Nat.{_-_, _≤_}
 use mathlib.Core.Path.{_≡_, ap, ap₂, sym, _∙_}
 use native.Mathlib.Omega.{arith}
-use lib.ListN.{getD}
 use lib.Bits.{bitOr}
 use borrow.Author.Needs.{needs}
 use Rattle.basics.specs.Lists.{upFrom, keep, each}
@@ -77,8 +76,8 @@ returns c =
     let gs = gatesOf (a .gates .now) in
     let i = l .loop .i in
     let here = found .sites-at .ensures ∙ ap (sites (a .lines) gs) (leveled .level .ensures) in
-    let left-0 = first .lacking .ensures ∙ ap (λ m. lacking m (getD (a .at-0 .now) i 0)) here in
-    let left-1 = second .lacking2 .ensures ∙ ap (λ m. lacking m (getD (a .at-1 .now) i 0)) here in
+    let left-0 = rw here at (first .lacking .ensures) in
+    let left-1 = rw here at (second .lacking2 .ensures) in
     sym (ap firstTold (l .loop .inv .1)
     ∙ level-found (a .lines) gs (a .at-0 .now) (a .at-1 .now) i _ (leveled .before .loop-test .taken)
     (start .pre .lines-fit) (λ z. tested .if1 .taken (ap₂ bitOr left-0 left-1 ∙ z)) (c .first-at-level .result)
@@ -101,8 +100,8 @@ loop-again c =
     let gs = gatesOf (a .gates .now) in
     let i = l .loop .i in
     let here = found .sites-at .ensures ∙ ap (sites (a .lines) gs) (leveled .level .ensures) in
-    let left-0 = first .lacking .ensures ∙ ap (λ m. lacking m (getD (a .at-0 .now) i 0)) here in
-    let left-1 = second .lacking2 .ensures ∙ ap (λ m. lacking m (getD (a .at-1 .now) i 0)) here in (
+    let left-0 = rw here at (first .lacking .ensures) in
+    let left-1 = rw here at (second .lacking2 .ensures) in (
       l .loop .inv .0,
       l .loop .inv .1 ∙ level-passed (a .lines) gs (a .at-0 .now) (a .at-1 .now) i _ (leveled .before .loop-test .taken)
           (sym (ap₂ bitOr left-0 left-1) ∙ c .if1 .left),

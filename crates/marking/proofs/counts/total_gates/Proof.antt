@@ -4,7 +4,6 @@ use mathlib.Core.Path.{_≡_, sym, ap, _∙_}
 use native.Mathlib.Omega.{arith}
 use lib.ListN.{length}
 use borrow.Author.Needs.{needs}
-use Rattle.words.specs.Word.{linesOn}
 use Rattle.circuit.specs.Gates.{gatesOf}
 use Rattle.circuit.specs.Limits.{mostLines}
 use Rattle.circuit.proofs.GateLaws.{gates-count}
@@ -69,7 +68,7 @@ loop-again c =
     let lines = lined .gate-lines .ensures ∙ ap (gateLines (a .lines) (gatesOf (a .gates .now)) (a .class)) number in (
       l .loop .inv .0,
       adding-more _ _ _ (l .loop .sum) (l .loop .i) (l .loop .inv .1) _ (turn .loop-test .taken)
-          (c .ones .ensures ∙ ap (λ m. length (linesOn mostLines m)) lines) (omega arith),
+          (rw lines at (c .ones .ensures)) (omega arith),
     )
 
 returns : tie.Need-returns Inv-loop μ-loop

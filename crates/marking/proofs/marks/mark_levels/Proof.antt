@@ -1,7 +1,7 @@
 -- `marking::marks::mark_levels` meets its contract: each turn marks one level and goes on to the next, and the last level is marked after the loop.
 -- Assumes nothing.
 use Prim.Native.Nat.{_-_}
-use mathlib.Core.Path.{_≡_, _∙_}
+use mathlib.Core.Path.{_≡_}
 use native.Mathlib.Omega.{arith}
 use lib.ListN.{take}
 use borrow.Author.Needs.{needs}
@@ -66,10 +66,10 @@ loop-again c =
           (leveled .before .loop-test .taken) (c .before .gate-at .result) (c .before .before .gate-after .result .0) (c .before .gate-at .ensures)
           (omega arith)),
       (
-        marks .mark-level .ensures .0 ∙ level-turn-0 (a .lines) (a .gates .now) (start .pre) (a .vector) _ (l .loop .state) (l .loop .i) here
-            (leveled .level .result .0) level (a .at-0 .now) (l .loop .at-0) (l .loop .inv .1 .0),
-        marks .mark-level .ensures .1 ∙ level-turn-1 (a .lines) (a .gates .now) (start .pre) (a .vector) _ (l .loop .state) (l .loop .i) here
-            (leveled .level .result .0) level (a .at-1 .now) (l .loop .at-1) (l .loop .inv .1 .1),
+        rw (marks .mark-level .ensures .0) (level-turn-0 (a .lines) (a .gates .now) (start .pre) (a .vector) _ (l .loop .state) (l .loop .i) here
+            (leveled .level .result .0) level (a .at-0 .now) (l .loop .at-0) (l .loop .inv .1 .0)),
+        rw (marks .mark-level .ensures .1) (level-turn-1 (a .lines) (a .gates .now) (start .pre) (a .vector) _ (l .loop .state) (l .loop .i) here
+            (leveled .level .result .0) level (a .at-1 .now) (l .loop .at-1) (l .loop .inv .1 .1)),
       ),
     )
 
@@ -90,12 +90,12 @@ returns c =
     let level : leveled .level2 .result .0 ≡ l .loop .i = omega arith in (
       levels-done (a .lines) (a .gates .now) (start .pre) (a .vector) _ (l .loop .state) (l .loop .i) here 0 (a .at-0 .now) _
           (ended .loop-test .left)
-          (c .mark-level2 .ensures .0 ∙ level-turn-0 (a .lines) (a .gates .now) (start .pre) (a .vector) _ (l .loop .state) (l .loop .i) here
-          (leveled .level2 .result .0) level (a .at-0 .now) (l .loop .at-0) (l .loop .inv .1 .0)),
+          (rw (c .mark-level2 .ensures .0) (level-turn-0 (a .lines) (a .gates .now) (start .pre) (a .vector) _ (l .loop .state) (l .loop .i) here
+          (leveled .level2 .result .0) level (a .at-0 .now) (l .loop .at-0) (l .loop .inv .1 .0))),
       levels-done (a .lines) (a .gates .now) (start .pre) (a .vector) _ (l .loop .state) (l .loop .i) here 1 (a .at-1 .now) _
           (ended .loop-test .left)
-          (c .mark-level2 .ensures .1 ∙ level-turn-1 (a .lines) (a .gates .now) (start .pre) (a .vector) _ (l .loop .state) (l .loop .i) here
-          (leveled .level2 .result .0) level (a .at-1 .now) (l .loop .at-1) (l .loop .inv .1 .1)),
+          (rw (c .mark-level2 .ensures .1) (level-turn-1 (a .lines) (a .gates .now) (start .pre) (a .vector) _ (l .loop .state) (l .loop .i) here
+          (leveled .level2 .result .0) level (a .at-1 .now) (l .loop .at-1) (l .loop .inv .1 .1))),
     )
 
 pub mark-levels-spec : {M : Type 1} → statement M
