@@ -1,4 +1,5 @@
--- The lists of faults that the contracts cite are those of `Machine` and `FaultLists`: the faults of a class, those that are caught, and the verdict on them.
+-- The lists of faults that the contracts cite are those of `Machine` and `FaultLists`: the faults of a class, those that are caught, and the
+-- verdict on them.
 use Prim.Native.Nat.{ℕ, zero, suc, _<_}
 use mathlib.Core.Path.{_≡_, refl, sym, _∙_, subst}
 use mathlib.Core.Bool.{Bool, true, false}

@@ -1,4 +1,5 @@
--- The faulty runs that the contracts cite are those of `Machine` and `FaultLists`: what a circuit puts out with a fault in it, and when a fault is caught.
+-- The faulty runs that the contracts cite are those of `Machine` and `FaultLists`: what a circuit puts out with a fault in it, and when a fault is
+-- caught.
 use Prim.Native.Nat.{ℕ, zero, suc, _-_, _≤_, _<_}
 use mathlib.Core.Path.{_≡_, refl, sym, ap, ap₂, _∙_, subst}
 use mathlib.Core.Logic.{_↔_, _≢_}

@@ -1,4 +1,5 @@
--- What reading and writing a job take, in the words of docs/SCOPE.md: exactly what breaks no rule of their tables. Bytes are taken as a job exactly if they
+-- What reading and writing a job take, in the words of docs/SCOPE.md: exactly what breaks no rule of their tables. Bytes are taken as a job exactly
+-- if they
 -- are the image of a valid one.
 use Prim.Native.Nat.{ℕ, _*_, _/_, _^_, _≤_, _<_}
 use mathlib.Core.Path.{_≡_, sym, ap, _∙_, subst}

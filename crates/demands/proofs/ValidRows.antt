@@ -1,4 +1,5 @@
--- What breaks no rule of a table is exactly what is valid in the words of docs/SCOPE.md: vectors, levels, faults, classes and rooms, alone and joined.
+-- What breaks no rule of a table is exactly what is valid in the words of docs/SCOPE.md: vectors, levels, faults, classes and rooms, alone and
+-- joined.
 use Prim.Native.Nat.{ℕ, _^_, _≤_, _<_}
 use mathlib.Core.Path.{_≡_, sym, ap, _∙_}
 use mathlib.Core.Logic.{_↔_, Iff·trans, Iff·and}

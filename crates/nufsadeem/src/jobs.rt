@@ -13,8 +13,10 @@ use answers::jobs::text_of;
 // A job out of bytes, into the fronts of two lists.
 #[no_mangle]
 pub extern "C" fn nuf_read_job(bytes: &[u8], gates: &mut [u32], vectors: &mut [u32]) -> Job
-    ensures { λ r. ⌜ ((r .number ∷ r .place ∷ r .lines ∷ r .classes ∷ r .gates ∷ r .vectors ∷ []) ≡ fields 4 (readTells (now (bytes .entry)) (now (gates .entry)) (now (vectors .entry))))
-        × ((now (gates .exit) ≡ readLeavesGates (now (bytes .entry)) (now (gates .entry)) (now (vectors .entry))) × (now (vectors .exit) ≡ readLeavesVectors (now (bytes .entry)) (now (gates .entry)) (now (vectors .entry)))) ⌝ }
+    ensures { λ r. ⌜ ((r .number ∷ r .place ∷ r .lines ∷ r .classes ∷ r .gates ∷ r .vectors ∷ []) ≡ fields 4
+        (readTells (now (bytes .entry)) (now (gates .entry)) (now (vectors .entry))))
+        × ((now (gates .exit) ≡ readLeavesGates (now (bytes .entry)) (now (gates .entry)) (now (vectors .entry)))
+        × (now (vectors .exit) ≡ readLeavesVectors (now (bytes .entry)) (now (gates .entry)) (now (vectors .entry)))) ⌝ }
 {
     job_of(job::read_job(bytes, gates, vectors))
 }
@@ -28,7 +30,8 @@ pub extern "C" fn nuf_write_job(
     vectors: &[u32],
     out: &mut [u8],
 ) -> Count
-    ensures { λ r. ⌜ ((r .number ∷ r .place ∷ r .count ∷ []) ≡ fields 1 (writeTells lines classes (now (gates .entry)) (now (vectors .entry)) (now (out .entry))))
+    ensures { λ r. ⌜ ((r .number ∷ r .place ∷ r .count ∷ []) ≡ fields 1
+        (writeTells lines classes (now (gates .entry)) (now (vectors .entry)) (now (out .entry))))
         × (now (out .exit) ≡ writeLeaves lines classes (now (gates .entry)) (now (vectors .entry)) (now (out .entry))) ⌝ }
 {
     bytes_of(job::write_job(lines, classes, gates, vectors, out))

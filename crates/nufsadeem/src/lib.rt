@@ -53,7 +53,8 @@ pub extern "C" fn nuf_catches_multiple(
     vector: u32,
     entries: &[u32],
 ) -> Catch
-    ensures { λ r. ⌜ (r .number ∷ r .place ∷ r .caught ∷ []) ≡ fields 1 (catchesMultipleTells lines (now (gates .entry)) vector (now (entries .entry))) ⌝ }
+    ensures { λ r. ⌜ (r .number ∷ r .place ∷ r .caught ∷ []) ≡ fields 1
+        (catchesMultipleTells lines (now (gates .entry)) vector (now (entries .entry))) ⌝ }
 {
     catch_of(simulator::catches_multiple(lines, gates, vector, entries))
 }
