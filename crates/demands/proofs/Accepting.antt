@@ -95,56 +95,59 @@ WriteTaken n classes words xs room =
 
 -- ---- the calls
 
-pub forward-takes : Accepts forward.Post (λ κs. toldRan) (λ κs a. RunTaken (a .0) (now (a .1 .0)) (a .1 .1 .0) (a .1 .1 .1 .0))
+pub forward-takes : Accepts forward.Post (λ κs. toldRan) (λ κs (lines, (gates, (level, (state, _)))). RunTaken lines (now gates) level state)
 forward-takes = accepts refusing.forward-refuses (λ κs a. run-valid _ _ _ _)
 
-pub backward-takes : Accepts backward.Post (λ κs. toldRan) (λ κs a. RunTaken (a .0) (now (a .1 .0)) (a .1 .1 .0) (a .1 .1 .1 .0))
+pub backward-takes : Accepts backward.Post (λ κs. toldRan) (λ κs (lines, (gates, (level, (state, _)))). RunTaken lines (now gates) level state)
 backward-takes = accepts refusing.backward-refuses (λ κs a. run-valid _ _ _ _)
 
-pub faulty-run-takes : Accepts faulty-run.Post (λ κs. toldOutput) (λ κs a. CatchTaken (a .0) (now (a .1 .0)) (a .1 .1 .0) (a .1 .1 .1 .0))
+pub faulty-run-takes : Accepts faulty-run.Post (λ κs. toldOutput)
+    (λ κs (lines, (gates, (vector, (fault, _)))). CatchTaken lines (now gates) vector fault)
 faulty-run-takes = accepts refusing.faulty-run-refuses (λ κs a. catch-valid _ _ _ _)
 
-pub catches-takes : Accepts catches.Post (λ κs. toldCaught) (λ κs a. CatchTaken (a .0) (now (a .1 .0)) (a .1 .1 .0) (a .1 .1 .1 .0))
+pub catches-takes : Accepts catches.Post (λ κs. toldCaught) (λ κs (lines, (gates, (vector, (fault, _)))). CatchTaken lines (now gates) vector fault)
 catches-takes = accepts refusing.catches-refuses (λ κs a. catch-valid _ _ _ _)
 
 pub catches-multiple-takes : Accepts catches-multiple.Post (λ κs. toldCaught)
-    (λ κs a. MultipleTaken (a .0) (now (a .1 .0)) (a .1 .1 .0) (now (a .1 .1 .1 .0)))
+    (λ κs (lines, (gates, (vector, (entries, _)))). MultipleTaken lines (now gates) vector (now entries))
 catches-multiple-takes = accepts refusing.catches-multiple-refuses (λ κs a. multiple-valid _ _ _ _)
 
-pub test-for-takes : Accepts test-for.Post (λ κs. toldMade) (λ κs a. TestTaken (a .0) (now (a .1 .0)) (a .1 .1 .0))
+pub test-for-takes : Accepts test-for.Post (λ κs. toldMade) (λ κs (lines, (gates, (fault, _))). TestTaken lines (now gates) fault)
 test-for-takes = accepts refusing.test-for-refuses (λ κs a. test-valid _ _ _)
 
-pub judge-takes : Accepts judge.Post (λ κs. toldVerdict) (λ κs a. JudgeTaken (a .0) (now (a .1 .0)) (now (a .1 .1 .0)) (a .1 .1 .1 .0))
+pub judge-takes : Accepts judge.Post (λ κs. toldVerdict)
+    (λ κs (lines, (gates, (vectors, (class, _)))). JudgeTaken lines (now gates) (now vectors) class)
 judge-takes = accepts refusing.judge-refuses (λ κs a. judge-valid _ _ _ _)
 
-pub cover-takes : Accepts cover.Post (λ κs. toldVerdict) (λ κs a. JudgeTaken (a .0) (now (a .1 .0)) (now (a .1 .1 .0)) (a .1 .1 .1 .0))
+pub cover-takes : Accepts cover.Post (λ κs. toldVerdict)
+    (λ κs (lines, (gates, (vectors, (class, _)))). JudgeTaken lines (now gates) (now vectors) class)
 cover-takes = accepts refusing.cover-refuses (λ κs a. judge-valid _ _ _ _)
 
 pub with-vector-takes : Accepts coverage-with-vector.Post (λ κs r. toldBeside (r .refusal))
-    (λ κs a. (gs : List Gate) × Valid (a .1 .0) (now (a .1 .1 .0)) gs × (a .1 .1 .1 .0 < 2 ^ a .1 .0))
+    (λ κs (_, (lines, (gates, (vector, _)))). (gs : List Gate) × Valid lines (now gates) gs × (vector < 2 ^ lines))
 with-vector-takes = accepts refusing.coverage-with-vector-refuses (λ κs a. vector-alone-valid _ _ _)
 
 pub count-takes : Accepts coverage-count.Post (λ κs. toldVerdict)
-    (λ κs a. (gs : List Gate) × Valid (a .1 .0) (now (a .1 .1 .0)) gs × ((1 ≤ a .1 .1 .1 .0) × (a .1 .1 .1 .0 ≤ 4)))
+    (λ κs (_, (lines, (gates, (class, _)))). (gs : List Gate) × Valid lines (now gates) gs × ((1 ≤ class) × (class ≤ 4)))
 count-takes = accepts refusing.coverage-count-refuses (λ κs a. count-valid _ _ _)
 
-pub drop-takes : Accepts drop.Post (λ κs. toldDropped) (λ κs a. DropTaken (a .0) (now (a .1 .0)) (a .1 .1 .0) (now (a .1 .1 .1 .0)))
+pub drop-takes : Accepts drop.Post (λ κs. toldDropped) (λ κs (lines, (gates, (vector, (list, _)))). DropTaken lines (now gates) vector (now list))
 drop-takes = accepts refusing.drop-refuses (λ κs a. drop-valid _ _ _ _)
 
 pub drop-records-takes : Accepts drop-records.Post (λ κs. toldDropped)
-    (λ κs a. DropRecordsTaken (a .0) (now (a .1 .0)) (a .1 .1 .0) (now (a .1 .1 .1 .0)))
+    (λ κs (lines, (gates, (vector, (list, _)))). DropRecordsTaken lines (now gates) vector (now list))
 drop-records-takes = accepts refusing.drop-records-refuses (λ κs a. drop-records-valid _ _ _ _)
 
 pub backward-set-takes : Accepts backward-set.Post (λ κs. testsets.toldMade)
-    (λ κs a. BackwardTaken (a .0) (now (a .1 .0)) (length (now (a .1 .1 .0))))
+    (λ κs (lines, (gates, (room, _))). BackwardTaken lines (now gates) (length (now room)))
 backward-set-takes = accepts refusing.backward-set-refuses (λ κs a. backward-valid _ _ _)
 
 pub compact-set-takes : Accepts compact-set.Post (λ κs. testsets.toldMade)
-    (λ κs a. CompactTaken (a .0) (now (a .1 .0)) (length (now (a .1 .1 .0))))
+    (λ κs (lines, (gates, (room, _))). CompactTaken lines (now gates) (length (now room)))
 compact-set-takes = accepts refusing.compact-set-refuses (λ κs a. compact-valid _ _ _)
 
 pub write-job-takes : Accepts write-job.Post (λ κs. toldWritten)
-    (λ κs a. WriteTaken (a .0) (a .1 .0) (now (a .1 .1 .0)) (now (a .1 .1 .1 .0)) (length (now (a .1 .1 .1 .1 .0))))
+    (λ κs (lines, (classes, (gates, (vectors, (out, _))))). WriteTaken lines classes (now gates) (now vectors) (length (now out)))
 write-job-takes = accepts refusing.write-job-refuses (λ κs a. write-valid _ _ _ _ _)
 
 -- bytes, however damaged, are taken exactly if they are the image of a job for which there is room

@@ -36,47 +36,48 @@ use Rattle.demands.proofs.Answering.{Ended}
 use Rattle.demands.proofs.InC.{AcceptsInC, unrefused-in-c, accepts-in-c}
 use Rattle.demands.proofs.Demand1OfC as refusing
 
-pub forward-takes : AcceptsInC forward.Post (λ κs r. r .number) (λ κs a. RunTaken (a .0) (now (a .1 .0)) (a .1 .1 .0) (a .1 .1 .1 .0))
+pub forward-takes : AcceptsInC forward.Post (λ κs r. r .number) (λ κs (lines, (gates, (level, (state, _)))). RunTaken lines (now gates) level state)
 forward-takes = accepts-in-c refusing.forward-refuses (λ κs a. run-valid _ _ _ _)
 
-pub backward-takes : AcceptsInC backward.Post (λ κs r. r .number) (λ κs a. RunTaken (a .0) (now (a .1 .0)) (a .1 .1 .0) (a .1 .1 .1 .0))
+pub backward-takes : AcceptsInC backward.Post (λ κs r. r .number) (λ κs (lines, (gates, (level, (state, _)))). RunTaken lines (now gates) level state)
 backward-takes = accepts-in-c refusing.backward-refuses (λ κs a. run-valid _ _ _ _)
 
-pub catches-takes : AcceptsInC catches.Post (λ κs r. r .number) (λ κs a. CatchTaken (a .0) (now (a .1 .0)) (a .1 .1 .0) (a .1 .1 .1 .0))
+pub catches-takes : AcceptsInC catches.Post (λ κs r. r .number)
+    (λ κs (lines, (gates, (vector, (fault, _)))). CatchTaken lines (now gates) vector fault)
 catches-takes = accepts-in-c refusing.catches-refuses (λ κs a. catch-valid _ _ _ _)
 
 pub catches-multiple-takes : AcceptsInC catches-multiple.Post (λ κs r. r .number)
-    (λ κs a. MultipleTaken (a .0) (now (a .1 .0)) (a .1 .1 .0) (now (a .1 .1 .1 .0)))
+    (λ κs (lines, (gates, (vector, (entries, _)))). MultipleTaken lines (now gates) vector (now entries))
 catches-multiple-takes = accepts-in-c refusing.catches-multiple-refuses (λ κs a. multiple-valid _ _ _ _)
 
-pub test-for-takes : AcceptsInC test-for.Post (λ κs r. r .number) (λ κs a. TestTaken (a .0) (now (a .1 .0)) (a .1 .1 .0))
+pub test-for-takes : AcceptsInC test-for.Post (λ κs r. r .number) (λ κs (lines, (gates, (fault, _))). TestTaken lines (now gates) fault)
 test-for-takes = accepts-in-c refusing.test-for-refuses (λ κs a. test-valid _ _ _)
 
 pub judge-takes : AcceptsInC judge.Post (λ κs r. r .number)
-    (λ κs a. JudgeTaken (a .0) (now (a .1 .0)) (now (a .1 .1 .0)) (a .1 .1 .1 .0))
+    (λ κs (lines, (gates, (vectors, (class, _)))). JudgeTaken lines (now gates) (now vectors) class)
 judge-takes = accepts-in-c refusing.judge-refuses (λ κs a. judge-valid _ _ _ _)
 
 pub cover-takes : AcceptsInC cover.Post (λ κs r. r .number)
-    (λ κs a. JudgeTaken (a .0) (now (a .1 .0)) (now (a .1 .1 .0)) (a .1 .1 .1 .0))
+    (λ κs (lines, (gates, (vectors, (class, _)))). JudgeTaken lines (now gates) (now vectors) class)
 cover-takes = accepts-in-c refusing.cover-refuses (λ κs a. judge-valid _ _ _ _)
 
-pub drop-takes : AcceptsInC drop.Post (λ κs r. r .number) (λ κs a. DropTaken (a .0) (now (a .1 .0)) (a .1 .1 .0) (now (a .1 .1 .1 .0)))
+pub drop-takes : AcceptsInC drop.Post (λ κs r. r .number) (λ κs (lines, (gates, (vector, (list, _)))). DropTaken lines (now gates) vector (now list))
 drop-takes = accepts-in-c refusing.drop-refuses (λ κs a. drop-valid _ _ _ _)
 
 pub drop-records-takes : AcceptsInC drop-records.Post (λ κs r. r .number)
-    (λ κs a. DropRecordsTaken (a .0) (now (a .1 .0)) (a .1 .1 .0) (now (a .1 .1 .1 .0)))
+    (λ κs (lines, (gates, (vector, (list, _)))). DropRecordsTaken lines (now gates) vector (now list))
 drop-records-takes = accepts-in-c refusing.drop-records-refuses (λ κs a. drop-records-valid _ _ _ _)
 
 pub backward-set-takes : AcceptsInC backward-set.Post (λ κs r. r .number)
-    (λ κs a. BackwardTaken (a .0) (now (a .1 .0)) (length (now (a .1 .1 .0))))
+    (λ κs (lines, (gates, (room, _))). BackwardTaken lines (now gates) (length (now room)))
 backward-set-takes = accepts-in-c refusing.backward-set-refuses (λ κs a. backward-valid _ _ _)
 
 pub compact-set-takes : AcceptsInC compact-set.Post (λ κs r. r .number)
-    (λ κs a. CompactTaken (a .0) (now (a .1 .0)) (length (now (a .1 .1 .0))))
+    (λ κs (lines, (gates, (room, _))). CompactTaken lines (now gates) (length (now room)))
 compact-set-takes = accepts-in-c refusing.compact-set-refuses (λ κs a. compact-valid _ _ _)
 
 pub write-job-takes : AcceptsInC write-job.Post (λ κs r. r .number)
-    (λ κs a. WriteTaken (a .0) (a .1 .0) (now (a .1 .1 .0)) (now (a .1 .1 .1 .0)) (length (now (a .1 .1 .1 .1 .0))))
+    (λ κs (lines, (classes, (gates, (vectors, (out, _))))). WriteTaken lines classes (now gates) (now vectors) (length (now out)))
 write-job-takes = accepts-in-c refusing.write-job-refuses (λ κs a. write-valid _ _ _ _ _)
 
 pub read-job-takes : (call : Ended read-job.Post) (all : All (λ b. b < 256) (now (call .inputs .0))) → (call .result .number ≡ 0)

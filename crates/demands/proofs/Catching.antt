@@ -123,21 +123,21 @@ module _ (n : ℕ) (words : List ℕ) (x : ℕ) where
 -- ---- the calls
 
 pub faulty-run-means : Answers faulty-run.Post (λ κs. toldOutput)
-    (λ κs a values e. GivesFaulty (a .0) (now (a .1 .0)) (a .1 .1 .0) (a .1 .1 .1 .0) values)
+    (λ κs (lines, (gates, (vector, (fault, _)))) values e. GivesFaulty lines (now gates) vector fault values)
 faulty-run-means = means refusing.faulty-run-refuses _ (λ κs a r e p. p) (λ κs a r e p u. gives-faulty _ _ _ _ u)
 
 pub catches-means : Answers catches.Post (λ κs. toldCaught)
-    (λ κs a values e. TellsCaught (a .0) (now (a .1 .0)) (a .1 .1 .0) (a .1 .1 .1 .0) values)
+    (λ κs (lines, (gates, (vector, (fault, _)))) values e. TellsCaught lines (now gates) vector fault values)
 catches-means = means refusing.catches-refuses _ (λ κs a r e p. p) (λ κs a r e p u. tells-caught _ _ _ _ u)
 
 pub catches-in-c : AnswersInC c-catches.Post (λ κs r. r .number) (λ κs r. r .caught ∷ [])
-    (λ κs a values e. TellsCaught (a .0) (now (a .1 .0)) (a .1 .1 .0) (a .1 .1 .1 .0) values)
+    (λ κs (lines, (gates, (vector, (fault, _)))) values e. TellsCaught lines (now gates) vector fault values)
 catches-in-c = means-in-c 1 refusing-in-c.catches-refuses _ (λ κs a r e p. p) (λ κs a r e p u. tells-caught _ _ _ _ u)
 
 pub catches-multiple-means : Answers catches-multiple.Post (λ κs. toldCaught)
-    (λ κs a values e. TellsCaughtTogether (a .0) (now (a .1 .0)) (a .1 .1 .0) (now (a .1 .1 .1 .0)) values)
+    (λ κs (lines, (gates, (vector, (entries, _)))) values e. TellsCaughtTogether lines (now gates) vector (now entries) values)
 catches-multiple-means = means refusing.catches-multiple-refuses _ (λ κs a r e p. p) (λ κs a r e p u. tells-together _ _ _ _ u)
 
 pub catches-multiple-in-c : AnswersInC c-catches-multiple.Post (λ κs r. r .number) (λ κs r. r .caught ∷ [])
-    (λ κs a values e. TellsCaughtTogether (a .0) (now (a .1 .0)) (a .1 .1 .0) (now (a .1 .1 .1 .0)) values)
+    (λ κs (lines, (gates, (vector, (entries, _)))) values e. TellsCaughtTogether lines (now gates) vector (now entries) values)
 catches-multiple-in-c = means-in-c 1 refusing-in-c.catches-multiple-refuses _ (λ κs a r e p. p) (λ κs a r e p u. tells-together _ _ _ _ u)

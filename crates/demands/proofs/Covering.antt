@@ -62,7 +62,7 @@ with-vector-means call told =
     (adds n words x (call .inputs .0) (vector-ok n words x unbroken .circuit))
 
 pub count-means : Answers coverage-count.Post (λ κs. toldVerdict)
-    (λ κs a values e. Counts (a .1 .0) (now (a .1 .1 .0)) (a .0) (a .1 .1 .1 .0) values)
+    (λ κs (coverage, (lines, (gates, (class, _)))) values e. Counts lines (now gates) coverage class values)
 unfolding verdict
 count-means = means refusing.coverage-count-refuses _ (λ κs a r e p. p) (λ κs a r e p u. counts _ _ _ _ (count-ok _ _ _ u .circuit))
 

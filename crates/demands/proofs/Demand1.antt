@@ -46,137 +46,140 @@ use Rattle.demands.proofs.Refusing.{in-turn, Refuses, Leaves, refusal-l
 
 -- circuit
 pub forward-refuses : Refuses forward.Post (λ κs. toldRan)
-    (λ κs a. runRows (a .0) (now (a .1 .0)) (a .1 .1 .0) (a .1 .1 .1 .0))
+    (λ κs (lines, (gates, (level, (state, _)))). runRows lines (now gates) level state)
     (3 ∷ 5 ∷ 7 ∷ 8 ∷ 12 ∷ [])
 unfolding runRows levelRows circuitSetRows circuitRows vectorRows
 forward-refuses = record { its-numbers = λ κs a. refl; in-order = in-turn _ _ refl; exact = λ κs a r e p. (_, exactly _ _ _ p) }
 
 pub backward-refuses : Refuses backward.Post (λ κs. toldRan)
-    (λ κs a. runRows (a .0) (now (a .1 .0)) (a .1 .1 .0) (a .1 .1 .1 .0))
+    (λ κs (lines, (gates, (level, (state, _)))). runRows lines (now gates) level state)
     (3 ∷ 5 ∷ 7 ∷ 8 ∷ 12 ∷ [])
 unfolding runRows levelRows circuitSetRows circuitRows vectorRows
 backward-refuses = record { its-numbers = λ κs a. refl; in-order = in-turn _ _ refl; exact = λ κs a r e p. (_, exactly _ _ _ p) }
 
 -- simulator
 pub faulty-run-refuses : Refuses faulty-run.Post (λ κs. toldOutput)
-    (λ κs a. catchRows (a .0) (now (a .1 .0)) (a .1 .1 .0) (a .1 .1 .1 .0))
+    (λ κs (lines, (gates, (vector, (fault, _)))). catchRows lines (now gates) vector fault)
     (3 ∷ 5 ∷ 7 ∷ 8 ∷ 9 ∷ [])
 unfolding catchRows faultRows circuitSetRows circuitRows vectorRows
 faulty-run-refuses = record { its-numbers = λ κs a. refl; in-order = in-turn _ _ refl; exact = λ κs a r e p. (_, exactly _ _ _ p) }
 
 pub catches-refuses : Refuses catches.Post (λ κs. toldCaught)
-    (λ κs a. catchRows (a .0) (now (a .1 .0)) (a .1 .1 .0) (a .1 .1 .1 .0))
+    (λ κs (lines, (gates, (vector, (fault, _)))). catchRows lines (now gates) vector fault)
     (3 ∷ 5 ∷ 7 ∷ 8 ∷ 9 ∷ [])
 unfolding catchRows faultRows circuitSetRows circuitRows vectorRows
 catches-refuses = record { its-numbers = λ κs a. refl; in-order = in-turn _ _ refl; exact = λ κs a r e p. (_, exactly _ _ _ p) }
 
 pub catches-multiple-refuses : Refuses catches-multiple.Post (λ κs. toldCaught)
-    (λ κs a. multipleRows (a .0) (now (a .1 .0)) (a .1 .1 .0) (now (a .1 .1 .1 .0)))
+    (λ κs (lines, (gates, (vector, (entries, _)))). multipleRows lines (now gates) vector (now entries))
     (3 ∷ 5 ∷ 7 ∷ 8 ∷ 9 ∷ 13 ∷ [])
 unfolding multipleRows entriesRows circuitSetRows circuitRows vectorRows
 catches-multiple-refuses = record { its-numbers = λ κs a. refl; in-order = in-turn _ _ refl; exact = λ κs a r e p. (_, exactly _ _ _ p) }
 
 pub test-for-refuses : Refuses test-for.Post (λ κs. toldMade)
-    (λ κs a. testRows (a .0) (now (a .1 .0)) (a .1 .1 .0))
+    (λ κs (lines, (gates, (fault, _))). testRows lines (now gates) fault)
     (3 ∷ 5 ∷ 7 ∷ 9 ∷ [])
 unfolding testRows faultRows circuitSetRows circuitRows
 test-for-refuses = record { its-numbers = λ κs a. refl; in-order = in-turn _ _ refl; exact = λ κs a r e p. (_, exactly _ _ _ p) }
 
 -- judge
 pub judge-refuses : Refuses judge.Post (λ κs. toldVerdict)
-    (λ κs a. judgeRows (a .0) (now (a .1 .0)) (now (a .1 .1 .0)) (a .1 .1 .1 .0))
+    (λ κs (lines, (gates, (vectors, (class, _)))). judgeRows lines (now gates) (now vectors) class)
     (3 ∷ 5 ∷ 7 ∷ 8 ∷ 9 ∷ [])
 unfolding judgeRows setRows classRows circuitSetRows verdict
 judge-refuses = record { its-numbers = λ κs a. refl; in-order = in-turn _ _ refl; exact = λ κs a r e p. (_, exactly _ _ _ p) }
 
 pub coverage-with-vector-refuses : Refuses coverage-with-vector.Post (λ κs r. toldBeside (r .refusal))
-    (λ κs a. circuitRows (a .1 .0) (now (a .1 .1 .0)) ++ vectorRows (a .1 .0) (a .1 .1 .1 .0))
+    (λ κs (_, (lines, (gates, (vector, _)))). circuitRows lines (now gates) ++ vectorRows lines vector)
     (3 ∷ 5 ∷ 7 ∷ 8 ∷ [])
 unfolding circuitSetRows circuitRows vectorRows
 coverage-with-vector-refuses = record { its-numbers = λ κs a. refl; in-order = in-turn _ _ refl; exact = λ κs a r e p. (_, exactly _ _ _ (p .0)) }
 
 -- its refusal hands the same coverage back
-pub coverage-with-vector-leaves : Leaves coverage-with-vector-refuses (λ κs a. a .0) (λ κs r e. r .coverage)
+pub coverage-with-vector-leaves : Leaves coverage-with-vector-refuses (λ κs (coverage, _). coverage) (λ κs r e. r .coverage)
 coverage-with-vector-leaves = refusal-leaves _ (λ κs a r e p. p .1)
 
 pub coverage-count-refuses : Refuses coverage-count.Post (λ κs. toldVerdict)
-    (λ κs a. countRows (a .1 .0) (now (a .1 .1 .0)) (a .1 .1 .1 .0))
+    (λ κs (_, (lines, (gates, (class, _)))). countRows lines (now gates) class)
     (3 ∷ 5 ∷ 7 ∷ 9 ∷ [])
 unfolding countRows classRows circuitSetRows circuitRows verdict
 coverage-count-refuses = record { its-numbers = λ κs a. refl; in-order = in-turn _ _ refl; exact = λ κs a r e p. (_, exactly _ _ _ p) }
 
 pub cover-refuses : Refuses cover.Post (λ κs. toldVerdict)
-    (λ κs a. judgeRows (a .0) (now (a .1 .0)) (now (a .1 .1 .0)) (a .1 .1 .1 .0))
+    (λ κs (lines, (gates, (vectors, (class, _)))). judgeRows lines (now gates) (now vectors) class)
     (3 ∷ 5 ∷ 7 ∷ 8 ∷ 9 ∷ [])
 unfolding judgeRows setRows classRows circuitSetRows verdict
 cover-refuses = record { its-numbers = λ κs a. refl; in-order = in-turn _ _ refl; exact = λ κs a r e p. (_, exactly _ _ _ p) }
 
 -- dropping
 pub drop-refuses : Refuses drop.Post (λ κs. toldDropped)
-    (λ κs a. dropRows (a .0) (now (a .1 .0)) (a .1 .1 .0) (now (a .1 .1 .1 .0)))
+    (λ κs (lines, (gates, (vector, (list, _)))). dropRows lines (now gates) vector (now list))
     (3 ∷ 5 ∷ 7 ∷ 8 ∷ 9 ∷ [])
 unfolding dropRows recordRows circuitSetRows circuitRows vectorRows
 drop-refuses = record { its-numbers = λ κs a. refl; in-order = in-turn _ _ refl; exact = λ κs a r e p. (_, exactly _ _ _ (p .0)) }
 
-pub drop-leaves : Leaves drop-refuses (λ κs a. now (a .1 .1 .1 .0)) (λ κs r e. now (e .1 .1 .1 .0))
+pub drop-leaves : Leaves drop-refuses (λ κs (_, (_, (_, (list, _)))). now list) (λ κs r (_, (_, (_, (list-after, _)))). now list-after)
 drop-leaves = refusal-leaves _ (λ κs a r e p. p .1)
 
 pub drop-records-refuses : Refuses drop-records.Post (λ κs. toldDropped)
-    (λ κs a. dropRecordsRows (a .0) (now (a .1 .0)) (a .1 .1 .0) (now (a .1 .1 .1 .0)))
+    (λ κs (lines, (gates, (vector, (list, _)))). dropRecordsRows lines (now gates) vector (now list))
     (3 ∷ 5 ∷ 7 ∷ 8 ∷ 9 ∷ [])
 unfolding dropRecordsRows recordRows circuitSetRows circuitRows vectorRows
 drop-records-refuses = record { its-numbers = λ κs a. refl; in-order = in-turn _ _ refl; exact = λ κs a r e p. (_, exactly _ _ _ (p .0)) }
 
-pub drop-records-leaves : Leaves drop-records-refuses (λ κs a. now (a .1 .1 .1 .0)) (λ κs r e. now (e .1 .1 .1 .0))
+pub drop-records-leaves : Leaves drop-records-refuses
+    (λ κs (_, (_, (_, (list, _)))). now list) (λ κs r (_, (_, (_, (list-after, _)))). now list-after)
 drop-records-leaves = refusal-leaves _ (λ κs a r e p. p .1)
 
 -- testsets
 pub backward-set-refuses : Refuses backward-set.Post (λ κs. testsets.toldMade)
-    (λ κs a. backwardRows (a .0) (now (a .1 .0)) (length (now (a .1 .1 .0))))
+    (λ κs (lines, (gates, (room, _))). backwardRows lines (now gates) (length (now room)))
     (3 ∷ 5 ∷ 7 ∷ 10 ∷ [])
 unfolding backwardRows circuitSetRows circuitRows
 backward-set-refuses = record { its-numbers = λ κs a. refl; in-order = in-turn _ _ refl; exact = λ κs a r e p. (_, exactly _ _ _ (p .0)) }
 
-pub backward-set-leaves : Leaves backward-set-refuses (λ κs a. now (a .1 .1 .0)) (λ κs r e. now (e .1 .1 .0))
+pub backward-set-leaves : Leaves backward-set-refuses (λ κs (_, (_, (room, _))). now room) (λ κs r (_, (_, (room-after, _))). now room-after)
 backward-set-leaves = refusal-leaves _ (λ κs a r e p. p .1)
 
 pub compact-set-refuses : Refuses compact-set.Post (λ κs. testsets.toldMade)
-    (λ κs a. compactRows (a .0) (now (a .1 .0)) (length (now (a .1 .1 .0))))
+    (λ κs (lines, (gates, (room, _))). compactRows lines (now gates) (length (now room)))
     (3 ∷ 5 ∷ 7 ∷ 11 ∷ 10 ∷ [])
 unfolding compactRows circuitSetRows circuitRows
 compact-set-refuses = record { its-numbers = λ κs a. refl; in-order = in-turn _ _ refl; exact = λ κs a r e p. (_, exactly _ _ _ (p .0)) }
 
-pub compact-set-leaves : Leaves compact-set-refuses (λ κs a. now (a .1 .1 .0)) (λ κs r e. now (e .1 .1 .0))
+pub compact-set-leaves : Leaves compact-set-refuses (λ κs (_, (_, (room, _))). now room) (λ κs r (_, (_, (room-after, _))). now room-after)
 compact-set-leaves = refusal-leaves _ (λ κs a r e p. p .1)
 
 -- job
 pub read-job-refuses : Refuses read-job.Post (λ κs. toldRead)
-    (λ κs a. readRows (now (a .0)) (length (now (a .1 .0))) (length (now (a .1 .1 .0))))
+    (λ κs (bytes, (gates, (vectors, _))). readRows (now bytes) (length (now gates)) (length (now vectors)))
     (1 ∷ 2 ∷ 3 ∷ 4 ∷ 5 ∷ 6 ∷ 7 ∷ 8 ∷ 10 ∷ [])
 unfolding readRows headerRows contentRows
 read-job-refuses = record { its-numbers = λ κs a. refl; in-order = in-turn _ _ refl; exact = λ κs a r e p. (_, exactly _ _ _ (p .0)) }
 
-pub read-job-leaves-gates : Leaves read-job-refuses (λ κs a. now (a .1 .0)) (λ κs r e. now (e .1 .0))
+pub read-job-leaves-gates : Leaves read-job-refuses (λ κs (_, (gates, _)). now gates) (λ κs r (_, (gates-after, _)). now gates-after)
 read-job-leaves-gates = refusal-leaves _ (λ κs a r e p. p .1 .0)
 
-pub read-job-leaves-vectors : Leaves read-job-refuses (λ κs a. now (a .1 .1 .0)) (λ κs r e. now (e .1 .1 .0))
+pub read-job-leaves-vectors : Leaves read-job-refuses
+    (λ κs (_, (_, (vectors, _))). now vectors) (λ κs r (_, (_, (vectors-after, _))). now vectors-after)
 read-job-leaves-vectors = refusal-leaves _ (λ κs a r e p. p .1 .1)
 
 pub write-job-refuses : Refuses write-job.Post (λ κs. toldWritten)
-    (λ κs a. writeRows (a .0) (a .1 .0) (now (a .1 .1 .0)) (now (a .1 .1 .1 .0)) (length (now (a .1 .1 .1 .1 .0))))
+    (λ κs (lines, (classes, (gates, (vectors, (out, _))))). writeRows lines classes (now gates) (now vectors) (length (now out)))
     (3 ∷ 4 ∷ 5 ∷ 7 ∷ 8 ∷ 10 ∷ [])
 unfolding writeRows contentRows
 write-job-refuses = record { its-numbers = λ κs a. refl; in-order = in-turn _ _ refl; exact = λ κs a r e p. (_, exactly _ _ _ (p .0)) }
 
-pub write-job-leaves : Leaves write-job-refuses (λ κs a. now (a .1 .1 .1 .1 .0)) (λ κs r e. now (e .1 .1 .1 .1 .0))
+pub write-job-leaves : Leaves write-job-refuses
+    (λ κs (_, (_, (_, (_, (out, _))))). now out) (λ κs r (_, (_, (_, (_, (out-after, _))))). now out-after)
 write-job-leaves = refusal-leaves _ (λ κs a r e p. p .1)
 
 -- report_text: any bytes have a text, so the one rule is its room
 pub report-refuses : Refuses report.Post (λ κs. toldReported)
-    (λ κs a. reportRows (now (a .0)) (length (now (a .1 .0))))
+    (λ κs (bytes, (out, _)). reportRows (now bytes) (length (now out)))
     (10 ∷ [])
 unfolding reportRows
 report-refuses = record { its-numbers = λ κs a. refl; in-order = in-turn _ _ refl; exact = λ κs a r e p. (_, exactly _ _ _ (p .0)) }
 
-pub report-leaves : Leaves report-refuses (λ κs a. now (a .1 .0)) (λ κs r e. now (e .1 .0))
+pub report-leaves : Leaves report-refuses (λ κs (_, (out, _)). now out) (λ κs r (_, (out-after, _)). now out-after)
 report-leaves = refusal-leaves _ (λ κs a r e p. p .1)

@@ -35,45 +35,45 @@ use Rattle.demands.proofs.InC.{RefusesInC, in-c}
 -- ---- the calls, each with its table and the numbers of its rules in the order in which they are checked
 
 pub forward-refuses : RefusesInC forward.Post (λ κs r. r .number) (λ κs r. r .place) (λ κs r. r .state ∷ [])
-    (λ κs a. runRows (a .0) (now (a .1 .0)) (a .1 .1 .0) (a .1 .1 .1 .0))
+    (λ κs (lines, (gates, (level, (state, _)))). runRows lines (now gates) level state)
     (3 ∷ 5 ∷ 7 ∷ 8 ∷ 12 ∷ [])
 unfolding runRows levelRows circuitSetRows circuitRows vectorRows
 forward-refuses = in-c 1 (λ κs a. refl) (in-turn _ _ refl) refl (λ κs a r e p. (_, p))
 
 pub backward-refuses : RefusesInC backward.Post (λ κs r. r .number) (λ κs r. r .place) (λ κs r. r .state ∷ [])
-    (λ κs a. runRows (a .0) (now (a .1 .0)) (a .1 .1 .0) (a .1 .1 .1 .0))
+    (λ κs (lines, (gates, (level, (state, _)))). runRows lines (now gates) level state)
     (3 ∷ 5 ∷ 7 ∷ 8 ∷ 12 ∷ [])
 unfolding runRows levelRows circuitSetRows circuitRows vectorRows
 backward-refuses = in-c 1 (λ κs a. refl) (in-turn _ _ refl) refl (λ κs a r e p. (_, p))
 
 pub catches-refuses : RefusesInC catches.Post (λ κs r. r .number) (λ κs r. r .place) (λ κs r. r .caught ∷ [])
-    (λ κs a. catchRows (a .0) (now (a .1 .0)) (a .1 .1 .0) (a .1 .1 .1 .0))
+    (λ κs (lines, (gates, (vector, (fault, _)))). catchRows lines (now gates) vector fault)
     (3 ∷ 5 ∷ 7 ∷ 8 ∷ 9 ∷ [])
 unfolding catchRows faultRows circuitSetRows circuitRows vectorRows
 catches-refuses = in-c 1 (λ κs a. refl) (in-turn _ _ refl) refl (λ κs a r e p. (_, p))
 
 pub catches-multiple-refuses : RefusesInC catches-multiple.Post (λ κs r. r .number) (λ κs r. r .place) (λ κs r. r .caught ∷ [])
-    (λ κs a. multipleRows (a .0) (now (a .1 .0)) (a .1 .1 .0) (now (a .1 .1 .1 .0)))
+    (λ κs (lines, (gates, (vector, (entries, _)))). multipleRows lines (now gates) vector (now entries))
     (3 ∷ 5 ∷ 7 ∷ 8 ∷ 9 ∷ 13 ∷ [])
 unfolding multipleRows entriesRows circuitSetRows circuitRows vectorRows
 catches-multiple-refuses = in-c 1 (λ κs a. refl) (in-turn _ _ refl) refl (λ κs a r e p. (_, p))
 
 pub test-for-refuses : RefusesInC test-for.Post (λ κs r. r .number) (λ κs r. r .place) (λ κs r. r .vector ∷ [])
-    (λ κs a. testRows (a .0) (now (a .1 .0)) (a .1 .1 .0))
+    (λ κs (lines, (gates, (fault, _))). testRows lines (now gates) fault)
     (3 ∷ 5 ∷ 7 ∷ 9 ∷ [])
 unfolding testRows faultRows circuitSetRows circuitRows
 test-for-refuses = in-c 1 (λ κs a. refl) (in-turn _ _ refl) refl (λ κs a r e p. (_, p))
 
 pub judge-refuses : RefusesInC judge.Post (λ κs r. r .number) (λ κs r. r .place)
     (λ κs r. r .caught ∷ r .total ∷ r .complete ∷ r .first .class ∷ r .first .place ∷ r .first .line ∷ r .first .value ∷ [])
-    (λ κs a. judgeRows (a .0) (now (a .1 .0)) (now (a .1 .1 .0)) (a .1 .1 .1 .0))
+    (λ κs (lines, (gates, (vectors, (class, _)))). judgeRows lines (now gates) (now vectors) class)
     (3 ∷ 5 ∷ 7 ∷ 8 ∷ 9 ∷ [])
 unfolding judgeRows setRows classRows circuitSetRows verdict
 judge-refuses = in-c 7 (λ κs a. refl) (in-turn _ _ refl) refl (λ κs a r e p. (_, p))
 
 pub cover-refuses : RefusesInC cover.Post (λ κs r. r .number) (λ κs r. r .place)
     (λ κs r. r .caught ∷ r .total ∷ r .complete ∷ r .first .class ∷ r .first .place ∷ r .first .line ∷ r .first .value ∷ [])
-    (λ κs a. judgeRows (a .0) (now (a .1 .0)) (now (a .1 .1 .0)) (a .1 .1 .1 .0))
+    (λ κs (lines, (gates, (vectors, (class, _)))). judgeRows lines (now gates) (now vectors) class)
     (3 ∷ 5 ∷ 7 ∷ 8 ∷ 9 ∷ [])
 unfolding judgeRows setRows classRows circuitSetRows verdict
 cover-refuses = in-c 7 (λ κs a. refl) (in-turn _ _ refl) refl (λ κs a r e p. (_, p))
@@ -81,68 +81,72 @@ cover-refuses = in-c 7 (λ κs a. refl) (in-turn _ _ refl) refl (λ κs a r e p.
 -- calls that are lent a list to write in
 
 pub drop-refuses : RefusesInC drop.Post (λ κs r. r .number) (λ κs r. r .place) (λ κs r. r .count ∷ [])
-    (λ κs a. dropRows (a .0) (now (a .1 .0)) (a .1 .1 .0) (now (a .1 .1 .1 .0)))
+    (λ κs (lines, (gates, (vector, (list, _)))). dropRows lines (now gates) vector (now list))
     (3 ∷ 5 ∷ 7 ∷ 8 ∷ 9 ∷ [])
 unfolding dropRows recordRows circuitSetRows circuitRows vectorRows
 drop-refuses = in-c 1 (λ κs a. refl) (in-turn _ _ refl) refl (λ κs a r e p. (_, p .0))
 
-pub drop-leaves : Leaves (drop-refuses .refuses) (λ κs a. now (a .1 .1 .1 .0)) (λ κs r e. now (e .1 .1 .1 .0))
+pub drop-leaves : Leaves (drop-refuses .refuses) (λ κs (_, (_, (_, (list, _)))). now list) (λ κs r (_, (_, (_, (list-after, _)))). now list-after)
 drop-leaves = refusal-leaves _ (λ κs a r e p. p .1)
 
 pub drop-records-refuses : RefusesInC drop-records.Post (λ κs r. r .number) (λ κs r. r .place) (λ κs r. r .count ∷ [])
-    (λ κs a. dropRecordsRows (a .0) (now (a .1 .0)) (a .1 .1 .0) (now (a .1 .1 .1 .0)))
+    (λ κs (lines, (gates, (vector, (list, _)))). dropRecordsRows lines (now gates) vector (now list))
     (3 ∷ 5 ∷ 7 ∷ 8 ∷ 9 ∷ [])
 unfolding dropRecordsRows recordRows circuitSetRows circuitRows vectorRows
 drop-records-refuses = in-c 1 (λ κs a. refl) (in-turn _ _ refl) refl (λ κs a r e p. (_, p .0))
 
-pub drop-records-leaves : Leaves (drop-records-refuses .refuses) (λ κs a. now (a .1 .1 .1 .0)) (λ κs r e. now (e .1 .1 .1 .0))
+pub drop-records-leaves : Leaves (drop-records-refuses .refuses)
+    (λ κs (_, (_, (_, (list, _)))). now list) (λ κs r (_, (_, (_, (list-after, _)))). now list-after)
 drop-records-leaves = refusal-leaves _ (λ κs a r e p. p .1)
 
 pub backward-set-refuses : RefusesInC backward-set.Post (λ κs r. r .number) (λ κs r. r .place) (λ κs r. r .count ∷ [])
-    (λ κs a. backwardRows (a .0) (now (a .1 .0)) (length (now (a .1 .1 .0))))
+    (λ κs (lines, (gates, (room, _))). backwardRows lines (now gates) (length (now room)))
     (3 ∷ 5 ∷ 7 ∷ 10 ∷ [])
 unfolding backwardRows circuitSetRows circuitRows
 backward-set-refuses = in-c 1 (λ κs a. refl) (in-turn _ _ refl) refl (λ κs a r e p. (_, p .0))
 
-pub backward-set-leaves : Leaves (backward-set-refuses .refuses) (λ κs a. now (a .1 .1 .0)) (λ κs r e. now (e .1 .1 .0))
+pub backward-set-leaves : Leaves (backward-set-refuses .refuses)
+    (λ κs (_, (_, (room, _))). now room) (λ κs r (_, (_, (room-after, _))). now room-after)
 backward-set-leaves = refusal-leaves _ (λ κs a r e p. p .1)
 
 pub compact-set-refuses : RefusesInC compact-set.Post (λ κs r. r .number) (λ κs r. r .place) (λ κs r. r .count ∷ [])
-    (λ κs a. compactRows (a .0) (now (a .1 .0)) (length (now (a .1 .1 .0))))
+    (λ κs (lines, (gates, (room, _))). compactRows lines (now gates) (length (now room)))
     (3 ∷ 5 ∷ 7 ∷ 11 ∷ 10 ∷ [])
 unfolding compactRows circuitSetRows circuitRows
 compact-set-refuses = in-c 1 (λ κs a. refl) (in-turn _ _ refl) refl (λ κs a r e p. (_, p .0))
 
-pub compact-set-leaves : Leaves (compact-set-refuses .refuses) (λ κs a. now (a .1 .1 .0)) (λ κs r e. now (e .1 .1 .0))
+pub compact-set-leaves : Leaves (compact-set-refuses .refuses) (λ κs (_, (_, (room, _))). now room) (λ κs r (_, (_, (room-after, _))). now room-after)
 compact-set-leaves = refusal-leaves _ (λ κs a r e p. p .1)
 
 pub read-job-refuses : RefusesInC read-job.Post (λ κs r. r .number) (λ κs r. r .place)
     (λ κs r. r .lines ∷ r .classes ∷ r .gates ∷ r .vectors ∷ [])
-    (λ κs a. readRows (now (a .0)) (length (now (a .1 .0))) (length (now (a .1 .1 .0))))
+    (λ κs (bytes, (gates, (vectors, _))). readRows (now bytes) (length (now gates)) (length (now vectors)))
     (1 ∷ 2 ∷ 3 ∷ 4 ∷ 5 ∷ 6 ∷ 7 ∷ 8 ∷ 10 ∷ [])
 unfolding readRows headerRows contentRows
 read-job-refuses = in-c 4 (λ κs a. refl) (in-turn _ _ refl) refl (λ κs a r e p. (_, p .0))
 
-pub read-job-leaves-gates : Leaves (read-job-refuses .refuses) (λ κs a. now (a .1 .0)) (λ κs r e. now (e .1 .0))
+pub read-job-leaves-gates : Leaves (read-job-refuses .refuses) (λ κs (_, (gates, _)). now gates) (λ κs r (_, (gates-after, _)). now gates-after)
 read-job-leaves-gates = refusal-leaves _ (λ κs a r e p. p .1 .0)
 
-pub read-job-leaves-vectors : Leaves (read-job-refuses .refuses) (λ κs a. now (a .1 .1 .0)) (λ κs r e. now (e .1 .1 .0))
+pub read-job-leaves-vectors : Leaves (read-job-refuses .refuses)
+    (λ κs (_, (_, (vectors, _))). now vectors) (λ κs r (_, (_, (vectors-after, _))). now vectors-after)
 read-job-leaves-vectors = refusal-leaves _ (λ κs a r e p. p .1 .1)
 
 pub write-job-refuses : RefusesInC write-job.Post (λ κs r. r .number) (λ κs r. r .place) (λ κs r. r .count ∷ [])
-    (λ κs a. writeRows (a .0) (a .1 .0) (now (a .1 .1 .0)) (now (a .1 .1 .1 .0)) (length (now (a .1 .1 .1 .1 .0))))
+    (λ κs (lines, (classes, (gates, (vectors, (out, _))))). writeRows lines classes (now gates) (now vectors) (length (now out)))
     (3 ∷ 4 ∷ 5 ∷ 7 ∷ 8 ∷ 10 ∷ [])
 unfolding writeRows contentRows
 write-job-refuses = in-c 1 (λ κs a. refl) (in-turn _ _ refl) refl (λ κs a r e p. (_, p .0))
 
-pub write-job-leaves : Leaves (write-job-refuses .refuses) (λ κs a. now (a .1 .1 .1 .1 .0)) (λ κs r e. now (e .1 .1 .1 .1 .0))
+pub write-job-leaves : Leaves (write-job-refuses .refuses)
+    (λ κs (_, (_, (_, (_, (out, _))))). now out) (λ κs r (_, (_, (_, (_, (out-after, _))))). now out-after)
 write-job-leaves = refusal-leaves _ (λ κs a r e p. p .1)
 
 pub report-refuses : RefusesInC report.Post (λ κs r. r .number) (λ κs r. r .place) (λ κs r. r .count ∷ [])
-    (λ κs a. reportRows (now (a .0)) (length (now (a .1 .0))))
+    (λ κs (bytes, (out, _)). reportRows (now bytes) (length (now out)))
     (10 ∷ [])
 unfolding reportRows
 report-refuses = in-c 1 (λ κs a. refl) (in-turn _ _ refl) refl (λ κs a r e p. (_, p .0))
 
-pub report-leaves : Leaves (report-refuses .refuses) (λ κs a. now (a .1 .0)) (λ κs r e. now (e .1 .0))
+pub report-leaves : Leaves (report-refuses .refuses) (λ κs (_, (out, _)). now out) (λ κs r (_, (out-after, _)). now out-after)
 report-leaves = refusal-leaves _ (λ κs a r e p. p .1)

@@ -153,11 +153,11 @@ caught-exactly : {n : ℕ} {words : List ℕ} {x : ℕ} {f : Fault} {values : Li
 caught-exactly w = record { gs = w .gs; circuit = w .circuit; by-output = told-caught w; by-condition = conditions w }
 
 pub catches-exactly : Answers catches.Post (λ κs. toldCaught)
-    (λ κs a values e. CaughtExactly (a .0) (now (a .1 .0)) (a .1 .1 .0) (a .1 .1 .1 .0) values)
+    (λ κs (lines, (gates, (vector, (fault, _)))) values e. CaughtExactly lines (now gates) vector fault values)
 catches-exactly = record { as-said = λ call values t. caught-exactly (catches-means .as-said call values t) }
 
 pub catches-exactly-in-c : AnswersInC c-catches.Post (λ κs r. r .number) (λ κs r. r .caught ∷ [])
-    (λ κs a values e. CaughtExactly (a .0) (now (a .1 .0)) (a .1 .1 .0) (a .1 .1 .1 .0) values)
+    (λ κs (lines, (gates, (vector, (fault, _)))) values e. CaughtExactly lines (now gates) vector fault values)
 catches-exactly-in-c = record { as-said = λ call z. caught-exactly (catches-in-c .as-said call z) }
 
 -- of a multiple fault, only the whole faulty run decides
@@ -173,11 +173,11 @@ together-exactly : {n : ℕ} {words : List ℕ} {x : ℕ} {list values : List �
 together-exactly w = record { gs = w .gs; circuit = w .circuit; fs = w .fs; lent = w .lent; by-output = told-together w }
 
 pub catches-multiple-exactly : Answers catches-multiple.Post (λ κs. toldCaught)
-    (λ κs a values e. TogetherExactly (a .0) (now (a .1 .0)) (a .1 .1 .0) (now (a .1 .1 .1 .0)) values)
+    (λ κs (lines, (gates, (vector, (entries, _)))) values e. TogetherExactly lines (now gates) vector (now entries) values)
 catches-multiple-exactly = record { as-said = λ call values t. together-exactly (catches-multiple-means .as-said call values t) }
 
 pub catches-multiple-exactly-in-c : AnswersInC c-catches-multiple.Post (λ κs r. r .number) (λ κs r. r .caught ∷ [])
-    (λ κs a values e. TogetherExactly (a .0) (now (a .1 .0)) (a .1 .1 .0) (now (a .1 .1 .1 .0)) values)
+    (λ κs (lines, (gates, (vector, (entries, _)))) values e. TogetherExactly lines (now gates) vector (now entries) values)
 catches-multiple-exactly-in-c = record { as-said = λ call z. together-exactly (catches-multiple-in-c .as-said call z) }
 
 -- ---- complete: exactly that every fault of the class is caught by some vector; otherwise the first that none catches is shown
@@ -202,20 +202,20 @@ complete-exactly w = record {
 }
 
 pub judge-exactly : Answers judge.Post (λ κs. toldVerdict)
-    (λ κs a values e. CompleteExactly (a .0) (now (a .1 .0)) (now (a .1 .1 .0)) (a .1 .1 .1 .0) values)
+    (λ κs (lines, (gates, (vectors, (class, _)))) values e. CompleteExactly lines (now gates) (now vectors) class values)
 judge-exactly = record { as-said = λ call values t. complete-exactly (judge-means .as-said call values t) }
 
 pub judge-exactly-in-c : AnswersInC c-judge.Post (λ κs r. r .number)
     (λ κs r. r .caught ∷ r .total ∷ r .complete ∷ r .first .class ∷ r .first .place ∷ r .first .line ∷ r .first .value ∷ [])
-    (λ κs a values e. CompleteExactly (a .0) (now (a .1 .0)) (now (a .1 .1 .0)) (a .1 .1 .1 .0) values)
+    (λ κs (lines, (gates, (vectors, (class, _)))) values e. CompleteExactly lines (now gates) (now vectors) class values)
 judge-exactly-in-c = record { as-said = λ call z. complete-exactly (judge-in-c .as-said call z) }
 
 -- the same by way of a coverage
 pub cover-exactly : Answers cover.Post (λ κs. toldVerdict)
-    (λ κs a values e. CompleteExactly (a .0) (now (a .1 .0)) (now (a .1 .1 .0)) (a .1 .1 .1 .0) values)
+    (λ κs (lines, (gates, (vectors, (class, _)))) values e. CompleteExactly lines (now gates) (now vectors) class values)
 cover-exactly = record { as-said = λ call values t. complete-exactly (cover-means .as-said call values t) }
 
 pub cover-exactly-in-c : AnswersInC c-cover.Post (λ κs r. r .number)
     (λ κs r. r .caught ∷ r .total ∷ r .complete ∷ r .first .class ∷ r .first .place ∷ r .first .line ∷ r .first .value ∷ [])
-    (λ κs a values e. CompleteExactly (a .0) (now (a .1 .0)) (now (a .1 .1 .0)) (a .1 .1 .1 .0) values)
+    (λ κs (lines, (gates, (vectors, (class, _)))) values e. CompleteExactly lines (now gates) (now vectors) class values)
 cover-exactly-in-c = record { as-said = λ call z. complete-exactly (cover-in-c .as-said call z) }

@@ -190,17 +190,21 @@ module _ (bytes : List ℕ) where
 -- ---- the calls
 
 pub read-job-means : Answers read-job.Post (λ κs. toldRead)
-    (λ κs a values e. ReadsOut (now (a .0)) (now (a .1 .0)) (now (a .1 .1 .0)) values (now (e .1 .0)) (now (e .1 .1 .0)))
+    (λ κs (bytes, (gates, (vectors, _))) values (_, (gates-after, (vectors-after, _))).
+        ReadsOut (now bytes) (now gates) (now vectors) values (now gates-after) (now vectors-after))
 read-job-means = means refusing.read-job-refuses _ (λ κs a r e p. p .0) (λ κs a r e p u. reads-out _ _ _ _ _ u (p .1 .0) (p .1 .1))
 
 pub read-job-in-c : AnswersInC c-read-job.Post (λ κs r. r .number) (λ κs r. r .lines ∷ r .classes ∷ r .gates ∷ r .vectors ∷ [])
-    (λ κs a values e. ReadsOut (now (a .0)) (now (a .1 .0)) (now (a .1 .1 .0)) values (now (e .1 .0)) (now (e .1 .1 .0)))
+    (λ κs (bytes, (gates, (vectors, _))) values (_, (gates-after, (vectors-after, _))).
+        ReadsOut (now bytes) (now gates) (now vectors) values (now gates-after) (now vectors-after))
 read-job-in-c = means-in-c 4 refusing-in-c.read-job-refuses _ (λ κs a r e p. p .0) (λ κs a r e p u. reads-out _ _ _ _ _ u (p .1 .0) (p .1 .1))
 
 pub write-job-means : Answers write-job.Post (λ κs. toldWritten)
-    (λ κs a values e. Writes (a .0) (a .1 .0) (now (a .1 .1 .0)) (now (a .1 .1 .1 .0)) (now (a .1 .1 .1 .1 .0)) values (now (e .1 .1 .1 .1 .0)))
+    (λ κs (lines, (classes, (gates, (vectors, (out, _))))) values (_, (_, (_, (_, (out-after, _))))).
+        Writes lines classes (now gates) (now vectors) (now out) values (now out-after))
 write-job-means = means refusing.write-job-refuses _ (λ κs a r e p. p .0) (λ κs a r e p u. writes _ _ _ _ _ _ u (p .1))
 
 pub write-job-in-c : AnswersInC c-write-job.Post (λ κs r. r .number) (λ κs r. r .count ∷ [])
-    (λ κs a values e. Writes (a .0) (a .1 .0) (now (a .1 .1 .0)) (now (a .1 .1 .1 .0)) (now (a .1 .1 .1 .1 .0)) values (now (e .1 .1 .1 .1 .0)))
+    (λ κs (lines, (classes, (gates, (vectors, (out, _))))) values (_, (_, (_, (_, (out-after, _))))).
+        Writes lines classes (now gates) (now vectors) (now out) values (now out-after))
 write-job-in-c = means-in-c 1 refusing-in-c.write-job-refuses _ (λ κs a r e p. p .0) (λ κs a r e p u. writes _ _ _ _ _ _ u (p .1))

@@ -51,23 +51,23 @@ judges n words xs class ok =
 -- ---- the calls
 
 pub judge-means : Answers judge.Post (λ κs. toldVerdict)
-    (λ κs a values e. Judges (a .0) (now (a .1 .0)) (now (a .1 .1 .0)) (a .1 .1 .1 .0) values)
+    (λ κs (lines, (gates, (vectors, (class, _)))) values e. Judges lines (now gates) (now vectors) class values)
 unfolding verdict
 judge-means = means refusing.judge-refuses _ (λ κs a r e p. p) (λ κs a r e p u. judges _ _ _ _ (judge-ok _ _ _ _ u .set .set .circuit))
 
 pub judge-in-c : AnswersInC c-judge.Post (λ κs r. r .number)
     (λ κs r. r .caught ∷ r .total ∷ r .complete ∷ r .first .class ∷ r .first .place ∷ r .first .line ∷ r .first .value ∷ [])
-    (λ κs a values e. Judges (a .0) (now (a .1 .0)) (now (a .1 .1 .0)) (a .1 .1 .1 .0) values)
+    (λ κs (lines, (gates, (vectors, (class, _)))) values e. Judges lines (now gates) (now vectors) class values)
 unfolding verdict
 judge-in-c = means-in-c 7 refusing-in-c.judge-refuses _ (λ κs a r e p. p) (λ κs a r e p u. judges _ _ _ _ (judge-ok _ _ _ _ u .set .set .circuit))
 
 pub cover-means : Answers cover.Post (λ κs. toldVerdict)
-    (λ κs a values e. Judges (a .0) (now (a .1 .0)) (now (a .1 .1 .0)) (a .1 .1 .1 .0) values)
+    (λ κs (lines, (gates, (vectors, (class, _)))) values e. Judges lines (now gates) (now vectors) class values)
 unfolding verdict
 cover-means = means refusing.cover-refuses _ (λ κs a r e p. p) (λ κs a r e p u. judges _ _ _ _ (judge-ok _ _ _ _ u .set .set .circuit))
 
 pub cover-in-c : AnswersInC c-cover.Post (λ κs r. r .number)
     (λ κs r. r .caught ∷ r .total ∷ r .complete ∷ r .first .class ∷ r .first .place ∷ r .first .line ∷ r .first .value ∷ [])
-    (λ κs a values e. Judges (a .0) (now (a .1 .0)) (now (a .1 .1 .0)) (a .1 .1 .1 .0) values)
+    (λ κs (lines, (gates, (vectors, (class, _)))) values e. Judges lines (now gates) (now vectors) class values)
 unfolding verdict
 cover-in-c = means-in-c 7 refusing-in-c.cover-refuses _ (λ κs a r e p. p) (λ κs a r e p u. judges _ _ _ _ (judge-ok _ _ _ _ u .set .set .circuit))

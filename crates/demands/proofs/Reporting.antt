@@ -217,9 +217,10 @@ writes-report bytes room exit unbroken made = record {
 
 -- ---- the call
 
-pub report-means : Answers report.Post (λ κs. toldReported) (λ κs a values e. WritesReport (now (a .0)) (now (a .1 .0)) values (now (e .1 .0)))
+pub report-means : Answers report.Post (λ κs. toldReported)
+    (λ κs (bytes, (out, _)) values (_, (out-after, _)). WritesReport (now bytes) (now out) values (now out-after))
 report-means = means refusing.report-refuses _ (λ κs a r e p. p .0) (λ κs a r e p u. writes-report _ _ _ u (p .1))
 
 pub report-in-c : AnswersInC c-report.Post (λ κs r. r .number) (λ κs r. r .count ∷ [])
-    (λ κs a values e. WritesReport (now (a .0)) (now (a .1 .0)) values (now (e .1 .0)))
+    (λ κs (bytes, (out, _)) values (_, (out-after, _)). WritesReport (now bytes) (now out) values (now out-after))
 report-in-c = means-in-c 1 refusing-in-c.report-refuses _ (λ κs a r e p. p .0) (λ κs a r e p u. writes-report _ _ _ u (p .1))

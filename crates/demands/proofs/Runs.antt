@@ -85,19 +85,19 @@ module _ (n : ℕ) (words : List ℕ) (level state : ℕ) (unbroken : fine ≡ f
 -- ---- the calls
 
 pub forward-means : Answers forward-call.Post (λ κs. toldRan)
-    (λ κs a values e. RunsForward (a .0) (now (a .1 .0)) (a .1 .1 .0) (a .1 .1 .1 .0) values)
+    (λ κs (lines, (gates, (level, (state, _)))) values e. RunsForward lines (now gates) level state values)
 forward-means = means refusing.forward-refuses _ (λ κs a r e p. p) (λ κs a r e p u. runs-forward _ _ _ _ u)
 
 pub backward-means : Answers backward-call.Post (λ κs. toldRan)
-    (λ κs a values e. RunsBackward (a .0) (now (a .1 .0)) (a .1 .1 .0) (a .1 .1 .1 .0) values)
+    (λ κs (lines, (gates, (level, (state, _)))) values e. RunsBackward lines (now gates) level state values)
 backward-means = means refusing.backward-refuses _ (λ κs a r e p. p) (λ κs a r e p u. runs-backward _ _ _ _ u)
 
 pub forward-in-c : AnswersInC c-forward.Post (λ κs r. r .number) (λ κs r. r .state ∷ [])
-    (λ κs a values e. RunsForward (a .0) (now (a .1 .0)) (a .1 .1 .0) (a .1 .1 .1 .0) values)
+    (λ κs (lines, (gates, (level, (state, _)))) values e. RunsForward lines (now gates) level state values)
 forward-in-c = means-in-c 1 refusing-in-c.forward-refuses _ (λ κs a r e p. p) (λ κs a r e p u. runs-forward _ _ _ _ u)
 
 pub backward-in-c : AnswersInC c-backward.Post (λ κs r. r .number) (λ κs r. r .state ∷ [])
-    (λ κs a values e. RunsBackward (a .0) (now (a .1 .0)) (a .1 .1 .0) (a .1 .1 .1 .0) values)
+    (λ κs (lines, (gates, (level, (state, _)))) values e. RunsBackward lines (now gates) level state values)
 backward-in-c = means-in-c 1 refusing-in-c.backward-refuses _ (λ κs a r e p. p) (λ κs a r e p u. runs-backward _ _ _ _ u)
 
 -- ---- what follows of two runs of one circuit

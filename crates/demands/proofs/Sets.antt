@@ -163,17 +163,17 @@ module _ (n : ℕ) (words room exit : List ℕ) where
 -- ---- the calls
 
 pub backward-set-means : Answers backward-set.Post (λ κs. toldMade)
-    (λ κs a values e. MakesBackward (a .0) (now (a .1 .0)) (now (a .1 .1 .0)) values (now (e .1 .1 .0)))
+    (λ κs (lines, (gates, (room, _))) values (_, (_, (room-after, _))). MakesBackward lines (now gates) (now room) values (now room-after))
 backward-set-means = means refusing.backward-set-refuses _ (λ κs a r e p. p .0) (λ κs a r e p u. makes-backward _ _ _ _ u (p .1))
 
 pub backward-set-in-c : AnswersInC c-backward-set.Post (λ κs r. r .number) (λ κs r. r .count ∷ [])
-    (λ κs a values e. MakesBackward (a .0) (now (a .1 .0)) (now (a .1 .1 .0)) values (now (e .1 .1 .0)))
+    (λ κs (lines, (gates, (room, _))) values (_, (_, (room-after, _))). MakesBackward lines (now gates) (now room) values (now room-after))
 backward-set-in-c = means-in-c 1 refusing-in-c.backward-set-refuses _ (λ κs a r e p. p .0) (λ κs a r e p u. makes-backward _ _ _ _ u (p .1))
 
 pub compact-set-means : Answers compact-set.Post (λ κs. toldMade)
-    (λ κs a values e. MakesCompact (a .0) (now (a .1 .0)) (now (a .1 .1 .0)) values (now (e .1 .1 .0)))
+    (λ κs (lines, (gates, (room, _))) values (_, (_, (room-after, _))). MakesCompact lines (now gates) (now room) values (now room-after))
 compact-set-means = means refusing.compact-set-refuses _ (λ κs a r e p. p .0) (λ κs a r e p u. makes-compact _ _ _ _ u (p .1))
 
 pub compact-set-in-c : AnswersInC c-compact-set.Post (λ κs r. r .number) (λ κs r. r .count ∷ [])
-    (λ κs a values e. MakesCompact (a .0) (now (a .1 .0)) (now (a .1 .1 .0)) values (now (e .1 .1 .0)))
+    (λ κs (lines, (gates, (room, _))) values (_, (_, (room-after, _))). MakesCompact lines (now gates) (now room) values (now room-after))
 compact-set-in-c = means-in-c 1 refusing-in-c.compact-set-refuses _ (λ κs a r e p. p .0) (λ κs a r e p u. makes-compact _ _ _ _ u (p .1))

@@ -121,9 +121,9 @@ module _ (n : ℕ) (words : List ℕ) (f : Fault) (unbroken : fine ≡ firstOf (
 -- ---- the call
 
 pub test-for-means : Answers test-for.Post (λ κs. toldMade)
-    (λ κs a values e. Tests (a .0) (now (a .1 .0)) (a .1 .1 .0) values)
+    (λ κs (lines, (gates, (fault, _))) values e. Tests lines (now gates) fault values)
 test-for-means = means refusing.test-for-refuses _ (λ κs a r e p. p) (λ κs a r e p u. tests _ _ _ u)
 
 pub test-for-in-c : AnswersInC c-test-for.Post (λ κs r. r .number) (λ κs r. r .vector ∷ [])
-    (λ κs a values e. Tests (a .0) (now (a .1 .0)) (a .1 .1 .0) values)
+    (λ κs (lines, (gates, (fault, _))) values e. Tests lines (now gates) fault values)
 test-for-in-c = means-in-c 1 refusing-in-c.test-for-refuses _ (λ κs a r e p. p) (λ κs a r e p u. tests _ _ _ u)
