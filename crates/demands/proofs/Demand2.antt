@@ -71,19 +71,20 @@ module _ (g : Gate) (s t : ℕ) (made : Makes g s t) where
 
 -- ---- levels, by runs of one circuit and input
 
-pub level-0-is-input : (call : Ended forward.Post) → call .inputs .1 .1 .0 ≡ 0 → (s : ℕ) → toldRan (call .result) ≡ answered (s ∷ [])
-    → s ≡ call .inputs .1 .1 .1 .0
+pub level-0-is-input : (call : Ended forward.Post)
+    → let (_, (_, (level, (input, _)))) = call .inputs in
+    level ≡ 0 → (s : ℕ) → toldRan (call .result) ≡ answered (s ∷ []) → s ≡ input
 level-0-is-input call zero s t =
-    level-none (subst (λ i. RunsForward (call .inputs .0) (now (call .inputs .1 .0)) i (call .inputs .1 .1 .1 .0) (s ∷ [])) zero
-    (forward-means .as-said call (s ∷ []) t))
+    let (lines, (gates, (_, (input, _)))) = call .inputs in
+    level-none (subst (λ level. RunsForward lines (now gates) level input (s ∷ [])) zero (forward-means .as-said call (s ∷ []) t))
 
 -- gate i makes level i of level i - 1
 pub gate-makes-level : (low high : Ended forward.Post)
-    → (low .inputs .0 ≡ high .inputs .0) × (now (low .inputs .1 .0) ≡ now (high .inputs .1 .0))
-    × (suc (low .inputs .1 .1 .0) ≡ high .inputs .1 .1 .0) × (low .inputs .1 .1 .1 .0 ≡ high .inputs .1 .1 .1 .0)
+    → let (lines, (gates, (level, (input, _)))) = low .inputs in
+    let (lines′, (gates′, (level′, (input′, _)))) = high .inputs in
+    (lines ≡ lines′) × (now gates ≡ now gates′) × (suc level ≡ level′) × (input ≡ input′)
     → (s t : ℕ) → toldRan (low .result) ≡ answered (s ∷ []) → toldRan (high .result) ≡ answered (t ∷ [])
-    → (gs : List Gate) × Circuit (low .inputs .0) (now (low .inputs .1 .0)) gs × (suc (low .inputs .1 .1 .0) ≤ length gs)
-    × Makes (gate gs (suc (low .inputs .1 .1 .0))) s t
+    → (gs : List Gate) × Circuit lines (now gates) gs × (suc level ≤ length gs) × Makes (gate gs (suc level)) s t
 gate-makes-level low high same s t e f =
     level-more (forward-means .as-said low (s ∷ []) e)
     (coe 1 0 (i. RunsForward (same .0 i) (same .1 i) (same .2 i) (same .3 i) (t ∷ [])) (forward-means .as-said high (t ∷ []) f))
@@ -92,53 +93,59 @@ gate-makes-level low high same s t e f =
 -- the first was given
 
 pub backward-after-forward : (first : Ended forward.Post) (second : Ended backward.Post)
-    → (first .inputs .0 ≡ second .inputs .0) × (now (first .inputs .1 .0) ≡ now (second .inputs .1 .0))
-    × (first .inputs .1 .1 .0 ≡ second .inputs .1 .1 .0)
-    → toldRan (first .result) ≡ answered (second .inputs .1 .1 .1 .0 ∷ []) → toldRan (second .result) ≡ answered (first .inputs .1 .1 .1 .0 ∷ [])
-backward-after-forward first second same state =
+    → let (lines, (gates, (level, (input, _)))) = first .inputs in
+    let (lines′, (gates′, (level′, (state, _)))) = second .inputs in
+    (lines ≡ lines′) × (now gates ≡ now gates′) × (level ≡ level′)
+    → toldRan (first .result) ≡ answered (state ∷ []) → toldRan (second .result) ≡ answered (input ∷ [])
+backward-after-forward first second same told =
+    let (lines, (gates, (level, (input, _)))) = first .inputs in
     let q = second .promised in
-    back-again (first .inputs .0) (now (first .inputs .1 .0)) (first .inputs .1 .1 .0) (first .inputs .1 .1 .1 .0) (second .inputs .1 .1 .1 .0)
-    (toldRan (first .result)) (toldRan (second .result)) (first .promised) state cc
+    back-again lines (now gates) level input _ (toldRan (first .result)) (toldRan (second .result)) (first .promised) told cc
 
 pub forward-after-backward : (first : Ended backward.Post) (second : Ended forward.Post)
-    → (first .inputs .0 ≡ second .inputs .0) × (now (first .inputs .1 .0) ≡ now (second .inputs .1 .0))
-    × (first .inputs .1 .1 .0 ≡ second .inputs .1 .1 .0)
-    → toldRan (first .result) ≡ answered (second .inputs .1 .1 .1 .0 ∷ []) → toldRan (second .result) ≡ answered (first .inputs .1 .1 .1 .0 ∷ [])
-forward-after-backward first second same state =
+    → let (lines, (gates, (level, (state, _)))) = first .inputs in
+    let (lines′, (gates′, (level′, (input, _)))) = second .inputs in
+    (lines ≡ lines′) × (now gates ≡ now gates′) × (level ≡ level′)
+    → toldRan (first .result) ≡ answered (input ∷ []) → toldRan (second .result) ≡ answered (state ∷ [])
+forward-after-backward first second same told =
+    let (lines, (gates, (level, (state, _)))) = first .inputs in
     let q = second .promised in
-    forth-again (first .inputs .0) (now (first .inputs .1 .0)) (first .inputs .1 .1 .0) (first .inputs .1 .1 .1 .0) (second .inputs .1 .1 .1 .0)
-    (toldRan (first .result)) (toldRan (second .result)) (first .promised) state cc
+    forth-again lines (now gates) level state _ (toldRan (first .result)) (toldRan (second .result)) (first .promised) told cc
 
 -- the same in C: a number that is 0, and the state
 abbrev structTells : Run → Told
 structTells r = toldBy (r .number) (r .place) (r .state ∷ [])
 
 pub backward-after-forward-in-c : (first : Ended c-forward.Post) (second : Ended c-backward.Post)
-    → (first .inputs .0 ≡ second .inputs .0) × (now (first .inputs .1 .0) ≡ now (second .inputs .1 .0))
-    × (first .inputs .1 .1 .0 ≡ second .inputs .1 .1 .0)
-    → first .result .number ≡ 0 → first .result .state ≡ second .inputs .1 .1 .1 .0
-    → (second .result .number ≡ 0) × (second .result .state ≡ first .inputs .1 .1 .1 .0)
-backward-after-forward-in-c first second same none state =
+    → let (lines, (gates, (level, (input, _)))) = first .inputs in
+    let (lines′, (gates′, (level′, (state, _)))) = second .inputs in
+    (lines ≡ lines′) × (now gates ≡ now gates′) × (level ≡ level′)
+    → first .result .number ≡ 0 → first .result .state ≡ state
+    → (second .result .number ≡ 0) × (second .result .state ≡ input)
+backward-after-forward-in-c first second same none told =
+    let (lines, (gates, (level, (input, _)))) = first .inputs in
+    let (_, (_, (_, (state, _)))) = second .inputs in
     let p = told-in-c 1 refusing-in-c.forward-refuses first _ (first .promised) in
     let q = told-in-c 1 refusing-in-c.backward-refuses second _ (second .promised) in
-    let given = tells-answer _ (first .result .place) _ (second .inputs .1 .1 .1 .0 ∷ []) .1 (none, ap (λ s. s ∷ []) state) in
-    let w = tells-answer _ _ (second .result .state ∷ []) (first .inputs .1 .1 .1 .0 ∷ []) .0
-    (back-again (first .inputs .0) (now (first .inputs .1 .0)) (first .inputs .1 .1 .0) (first .inputs .1 .1 .1 .0) (second .inputs .1 .1 .1 .0)
-    (structTells (first .result)) (structTells (second .result)) p given cc) in
+    let given = tells-answer _ (first .result .place) _ (state ∷ []) .1 (none, ap (λ s. s ∷ []) told) in
+    let w = tells-answer _ _ (second .result .state ∷ []) (input ∷ []) .0
+    (back-again lines (now gates) level input state (structTells (first .result)) (structTells (second .result)) p given cc) in
     (w .0, let e = w .1 in cc)
 
 pub forward-after-backward-in-c : (first : Ended c-backward.Post) (second : Ended c-forward.Post)
-    → (first .inputs .0 ≡ second .inputs .0) × (now (first .inputs .1 .0) ≡ now (second .inputs .1 .0))
-    × (first .inputs .1 .1 .0 ≡ second .inputs .1 .1 .0)
-    → first .result .number ≡ 0 → first .result .state ≡ second .inputs .1 .1 .1 .0
-    → (second .result .number ≡ 0) × (second .result .state ≡ first .inputs .1 .1 .1 .0)
-forward-after-backward-in-c first second same none state =
+    → let (lines, (gates, (level, (state, _)))) = first .inputs in
+    let (lines′, (gates′, (level′, (input, _)))) = second .inputs in
+    (lines ≡ lines′) × (now gates ≡ now gates′) × (level ≡ level′)
+    → first .result .number ≡ 0 → first .result .state ≡ input
+    → (second .result .number ≡ 0) × (second .result .state ≡ state)
+forward-after-backward-in-c first second same none told =
+    let (lines, (gates, (level, (state, _)))) = first .inputs in
+    let (_, (_, (_, (input, _)))) = second .inputs in
     let p = told-in-c 1 refusing-in-c.backward-refuses first _ (first .promised) in
     let q = told-in-c 1 refusing-in-c.forward-refuses second _ (second .promised) in
-    let given = tells-answer _ (first .result .place) _ (second .inputs .1 .1 .1 .0 ∷ []) .1 (none, ap (λ s. s ∷ []) state) in
-    let w = tells-answer _ _ (second .result .state ∷ []) (first .inputs .1 .1 .1 .0 ∷ []) .0
-    (forth-again (first .inputs .0) (now (first .inputs .1 .0)) (first .inputs .1 .1 .0) (first .inputs .1 .1 .1 .0) (second .inputs .1 .1 .1 .0)
-    (structTells (first .result)) (structTells (second .result)) p given cc) in
+    let given = tells-answer _ (first .result .place) _ (input ∷ []) .1 (none, ap (λ s. s ∷ []) told) in
+    let w = tells-answer _ _ (second .result .state ∷ []) (state ∷ []) .0
+    (forth-again lines (now gates) level state input (structTells (first .result)) (structTells (second .result)) p given cc) in
     (w .0, let e = w .1 in cc)
 
 -- ---- caught: 1 is told exactly if the output of the circuit with the fault in it differs, and exactly if the condition of the fault's class holds
