@@ -151,20 +151,24 @@ pub write-job-takes : Accepts write-job.Post (λ κs. toldWritten)
 write-job-takes = accepts refusing.write-job-refuses (λ κs a. write-valid _ _ _ _ _)
 
 -- bytes, however damaged, are taken exactly if they are the image of a job for which there is room
-pub read-job-takes : (call : Ended read-job.Post) (all : All (λ b. b < 256) (now (call .inputs .0)))
-    → ((values : List ℕ) × (toldRead (call .result) ≡ answered values))
-    ↔ IsJob (now (call .inputs .0)) (length (now (call .inputs .1 .0))) (length (now (call .inputs .1 .1 .0)))
+pub read-job-takes : (call : Ended read-job.Post)
+    → let (bytes, (gates, (vectors, _))) = call .inputs in
+    All (λ b. b < 256) (now bytes)
+    → ((values : List ℕ) × (toldRead (call .result) ≡ answered values)) ↔ IsJob (now bytes) (length (now gates)) (length (now vectors))
 read-job-takes call all =
     let w = unrefused refusing.read-job-refuses call in
-    let v = read-valid (now (call .inputs .0)) all (length (now (call .inputs .1 .0))) (length (now (call .inputs .1 .1 .0))) in
+    let (bytes, (gates, (vectors, _))) = call .inputs in
+    let v = read-valid (now bytes) all (length (now gates)) (length (now vectors)) in
     (λ t. v .0 (w .0 t), λ j. w .1 (v .1 j))
 
 -- and any bytes at all have a report, in a room of 100 bytes
-pub report-takes-all : (call : Ended report.Post) → 100 ≤ length (now (call .inputs .1 .0))
-    → (values : List ℕ) × (toldReported (call .result) ≡ answered values)
+pub report-takes-all : (call : Ended report.Post)
+    → let (_, (out, _)) = call .inputs in
+    100 ≤ length (now out) → (values : List ℕ) × (toldReported (call .result) ≡ answered values)
 unfolding reportRows
 report-takes-all call wide =
-    let bytes : List ℕ = now (call .inputs .0) in
-    let room : ℕ = length (now (call .inputs .1 .0)) in
+    let (lent, (out, _)) = call .inputs in
+    let bytes : List ℕ = now lent in
+    let room : ℕ = length (now out) in
     unrefused refusing.report-refuses call .1
     (one-rule (ltb room (length (reportText bytes))) 10 0 .1 (le-ltb room (length (reportText bytes)) (le-trans (report-fits bytes) wide)))

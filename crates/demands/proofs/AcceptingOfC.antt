@@ -80,17 +80,22 @@ pub write-job-takes : AcceptsInC write-job.Post (λ κs r. r .number)
     (λ κs (lines, (classes, (gates, (vectors, (out, _))))). WriteTaken lines classes (now gates) (now vectors) (length (now out)))
 write-job-takes = accepts-in-c refusing.write-job-refuses (λ κs a. write-valid _ _ _ _ _)
 
-pub read-job-takes : (call : Ended read-job.Post) (all : All (λ b. b < 256) (now (call .inputs .0))) → (call .result .number ≡ 0)
-    ↔ IsJob (now (call .inputs .0)) (length (now (call .inputs .1 .0))) (length (now (call .inputs .1 .1 .0)))
+pub read-job-takes : (call : Ended read-job.Post)
+    → let (bytes, (gates, (vectors, _))) = call .inputs in
+    All (λ b. b < 256) (now bytes) → (call .result .number ≡ 0) ↔ IsJob (now bytes) (length (now gates)) (length (now vectors))
 read-job-takes call all =
     let w = unrefused-in-c refusing.read-job-refuses call in
-    let v = read-valid (now (call .inputs .0)) all (length (now (call .inputs .1 .0))) (length (now (call .inputs .1 .1 .0))) in
+    let (bytes, (gates, (vectors, _))) = call .inputs in
+    let v = read-valid (now bytes) all (length (now gates)) (length (now vectors)) in
     (λ t. v .0 (w .0 t), λ j. w .1 (v .1 j))
 
-pub report-takes-all : (call : Ended report.Post) → 100 ≤ length (now (call .inputs .1 .0)) → call .result .number ≡ 0
+pub report-takes-all : (call : Ended report.Post)
+    → let (_, (out, _)) = call .inputs in
+    100 ≤ length (now out) → call .result .number ≡ 0
 unfolding reportRows
 report-takes-all call wide =
-    let bytes : List ℕ = now (call .inputs .0) in
-    let room : ℕ = length (now (call .inputs .1 .0)) in
+    let (lent, (out, _)) = call .inputs in
+    let bytes : List ℕ = now lent in
+    let room : ℕ = length (now out) in
     unrefused-in-c refusing.report-refuses call .1
     (one-rule (ltb room (length (reportText bytes))) 10 0 .1 (le-ltb room (length (reportText bytes)) (le-trans (report-fits bytes) wide)))

@@ -10,8 +10,8 @@ use Rattle.refusals.proofs.Tables.{answered-fine}
 use Rattle.demands.proofs.FirstBroken.{answers-exactly}
 use Rattle.demands.proofs.Refusing.{Refuses}
 
--- a call that has ended with what its contract allows; its inputs are its arguments in their order, `inputs .0`, `inputs .1 .0` and so on, and `now`
--- of a lent slice, there or at the exit, is what it holds
+-- a call that has ended with what its contract allows; its inputs are its arguments in their order, which are named at each place as its parameters
+-- are, `let (lines, (gates, (level, (state, _)))) = call .inputs in`; at the exit they are named so too; and `now` of a lent slice is what it holds
 pub record Ended {L : Type 0} {Inputs Result Exit : L → Type 0} (Post : (κs : L) → Inputs κs → Result κs → Exit κs → Type 0) : Type 0 where
   pub lifetimes : L
   pub inputs : Inputs lifetimes

@@ -51,15 +51,15 @@ empty-means call =
 
 -- a vector that is not refused is added
 pub with-vector-means : (call : Ended coverage-with-vector.Post) → toldBeside (call .result .refusal) ≡ fine
-    → Adds (call .inputs .1 .0) (now (call .inputs .1 .1 .0)) (call .inputs .1 .1 .1 .0) (call .inputs .0) (call .result .coverage)
+    → let (coverage, (lines, (gates, (vector, _)))) = call .inputs in
+    Adds lines (now gates) vector coverage (call .result .coverage)
 with-vector-means call told =
-    let n : ℕ = call .inputs .1 .0 in
-    let words : List ℕ = now (call .inputs .1 .1 .0) in
-    let x : ℕ = call .inputs .1 .1 .1 .0 in
+    let (coverage, (n, (gates, (x, _)))) = call .inputs in
+    let words : List ℕ = now gates in
     let unbroken = sym told ∙ call .promised .0 in
-    subst (Adds n words x (call .inputs .0))
+    subst (Adds n words x coverage)
     (after-fine (circuitRows n words ++ vectorRows n x) _ _ unbroken ∙ sym (call .promised .1))
-    (adds n words x (call .inputs .0) (vector-ok n words x unbroken .circuit))
+    (adds n words x coverage (vector-ok n words x unbroken .circuit))
 
 pub count-means : Answers coverage-count.Post (λ κs. toldVerdict)
     (λ κs (coverage, (lines, (gates, (class, _)))) values e. Counts lines (now gates) coverage class values)
@@ -68,11 +68,24 @@ count-means = means refusing.coverage-count-refuses _ (λ κs a r e p. p) (λ κ
 
 -- ---- begun empty and given a set's vectors in turn, each with the same circuit
 
+-- what `with_vector` is given
+module _ (call : Ended coverage-with-vector.Post) where
+  abbrev soFar : Coverage
+  soFar = let (coverage, _) = call .inputs in coverage
+
+  abbrev lines : ℕ
+  lines = let (_, (lines, _)) = call .inputs in lines
+
+  abbrev gates : List ℕ
+  gates = let (_, (_, (gates, _))) = call .inputs in now gates
+
+  abbrev vector : ℕ
+  vector = let (_, (_, (_, (vector, _)))) = call .inputs in vector
+
 pub data Covers (n : ℕ) (words : List ℕ) : List ℕ → Coverage → Type 0 where
   begun : (call : Ended coverage-empty.Post) → Covers n words [] (call .result)
-  given : {xs : List ℕ} (call : Ended coverage-with-vector.Post) → Covers n words xs (call .inputs .0)
-      → call .inputs .1 .0 ≡ n → now (call .inputs .1 .1 .0) ≡ words → toldBeside (call .result .refusal) ≡ fine
-      → Covers n words (xs ++ (call .inputs .1 .1 .1 .0 ∷ [])) (call .result .coverage)
+  given : {xs : List ℕ} (call : Ended coverage-with-vector.Post) → Covers n words xs (soFar call) → lines call ≡ n → gates call ≡ words
+      → toldBeside (call .result .refusal) ≡ fine → Covers n words (xs ++ (vector call ∷ [])) (call .result .coverage)
 
 with-all-last : (c : Coverage) (n : ℕ) (gs : List Gate) (xs : List ℕ) (x : ℕ)
     → withAll c n gs (xs ++ (x ∷ [])) ≡ withVector (withAll c n gs xs) n gs x
@@ -83,24 +96,25 @@ with-all-last c n gs (y ∷ xs) x = with-all-last (withVector c n gs y) n gs xs 
 covers-all : (n : ℕ) (words xs : List ℕ) (c : Coverage) → Covers n words xs c → c ≡ withAll emptyCoverage n (gatesOf words) xs
 unfolding withAll
 covers-all n words xs c (begun call) = call .promised
-covers-all n words xs c (given {xs = ys} call before lines gates told) =
-    let x : ℕ = call .inputs .1 .1 .1 .0 in
-    let rows : List Row = circuitRows (call .inputs .1 .0) (now (call .inputs .1 .1 .0)) ++ vectorRows (call .inputs .1 .0) x in
-    let so-far = covers-all n words ys (call .inputs .0) before in
+covers-all n words xs c (given {xs = ys} call before same-lines same-gates told) =
+    let x : ℕ = vector call in
+    let rows : List Row = circuitRows (lines call) (gates call) ++ vectorRows (lines call) x in
+    let so-far = covers-all n words ys (soFar call) before in
     call .promised .1 ∙ sym (after-fine rows _ _ (sym told ∙ call .promised .0))
-    ∙ (λ i. withVector (so-far i) (lines i) (gatesOf (gates i)) x)
+    ∙ (λ i. withVector (so-far i) (same-lines i) (gatesOf (same-gates i)) x)
     ∙ sym (with-all-last emptyCoverage n (gatesOf words) ys x)
 
 -- it ends with the verdict of the judge of that set
-pub covers-judges : (n : ℕ) (words xs : List ℕ) (call : Ended coverage-count.Post) → Covers n words xs (call .inputs .0)
-    → call .inputs .1 .0 ≡ n → now (call .inputs .1 .1 .0) ≡ words → (values : List ℕ) → toldVerdict (call .result) ≡ answered values
-    → Judges n words xs (call .inputs .1 .1 .1 .0) values
+pub covers-judges : (n : ℕ) (words xs : List ℕ) (call : Ended coverage-count.Post)
+    → let (coverage, (lines, (gates, (class, _)))) = call .inputs in
+    Covers n words xs coverage → lines ≡ n → now gates ≡ words → (values : List ℕ) → toldVerdict (call .result) ≡ answered values
+    → Judges n words xs class values
 unfolding verdict
 covers-judges n words xs call covers lines gates values told =
-    let class : ℕ = call .inputs .1 .1 .1 .0 in
+    let (coverage, (_, (_, (class, _)))) = call .inputs in
     let gs : List Gate = gatesOf words in
     let c : Coverage = withAll emptyCoverage n gs xs in
-    let same = covers-all n words xs (call .inputs .0) covers in
+    let same = covers-all n words xs coverage covers in
     let promise : answered values ≡ firstOf (countRows n words class) (answered (toldOf (isMarked c) (classFaults n gs class))) =
     sym told ∙ call .promised
     ∙ (λ i. firstOf (countRows (lines i) (gates i) class)

@@ -33,15 +33,22 @@ Lent n words m others = (m ≡ n) × (others ≡ words)
 
 module _ (made : Ended compact-set.Post) (k : ℕ) (told : toldMade (made .result) ≡ answered (k ∷ [])) where
   abbrev n : ℕ
-  n = made .inputs .0
+  n = let (lines, _) = made .inputs in lines
 
   abbrev words : List ℕ
-  words = now (made .inputs .1 .0)
+  words = let (_, (gates, _)) = made .inputs in now gates
+
+  -- the room, before and after
+  abbrev old : List ℕ
+  old = let (_, (_, (room, _))) = made .inputs in now room
+
+  abbrev left : List ℕ
+  left = let (_, (_, (room-after, _))) = made .exit in now room-after
 
   abbrev written : List ℕ
-  written = take k (now (made .exit .1 .1 .0))
+  written = take k left
 
-  is : MakesCompact n words (now (made .inputs .1 .1 .0)) (k ∷ []) (now (made .exit .1 .1 .0))
+  is : MakesCompact n words old (k ∷ []) left
   is = compact-set-means .as-said made (k ∷ []) told
 
   -- S is n (d + 1), and there are at most 2 + floor(log2 S) vectors
@@ -54,27 +61,30 @@ module _ (made : Ended compact-set.Post) (k : ℕ) (told : toldMade (made .resul
   by-the-rule = (is .gs, is .circuit, (is .faults, is .stuck-at, compact-picks _ _ _ _ k is))
 
   -- every single stuck-at fault that `catches` takes with this circuit, whatever vector it was asked with: with some vector of the set 1 is told
-  pub every-single : (asked : Ended catches.Post) → Lent n words (asked .inputs .0) (now (asked .inputs .1 .0))
-      → asked .inputs .1 .1 .1 .0 .class ≡ 1 → (values : List ℕ) → toldCaught (asked .result) ≡ answered values
+  pub every-single : (asked : Ended catches.Post)
+      → let (lines, (gates, (_, (fault, _)))) = asked .inputs in
+      Lent n words lines (now gates) → fault .class ≡ 1 → (values : List ℕ) → toldCaught (asked .result) ≡ answered values
       → (v : ℕ) × List·Memᴰ v written
-      × ((call : Ended catches.Post) → Lent n words (call .inputs .0) (now (call .inputs .1 .0))
-      → call .inputs .1 .1 .0 ≡ v → call .inputs .1 .1 .1 .0 ≡ asked .inputs .1 .1 .1 .0 → toldCaught (call .result) ≡ answered (1 ∷ []))
+      × ((call : Ended catches.Post)
+      → let (lines′, (gates′, (vector, (fault′, _)))) = call .inputs in
+      Lent n words lines′ (now gates′) → vector ≡ v → fault′ ≡ fault → toldCaught (call .result) ≡ answered (1 ∷ []))
   every-single asked same class values taken =
-      let x : ℕ = asked .inputs .1 .1 .0 in
-      let f : Fault = asked .inputs .1 .1 .1 .0 in
-      let passed = answered-fine (catchRows (asked .inputs .0) (now (asked .inputs .1 .0)) x f) values _ (sym taken ∙ asked .promised) .1 in
+      let (lines, (gates, (x, (f, _)))) = asked .inputs in
+      let passed = answered-fine (catchRows lines (now gates) x f) values _ (sym taken ∙ asked .promised) .1 in
       let w = compact-single _ _ _ _ k is x f (coe 0 1 (i. fine ≡ firstOf (catchRows (same .0 i) (same .1 i) x f) fine) passed) class in
       (w .0, w .1, λ call lent vector fault. w .2 (toldCaught (call .result)) (let p = call .promised in cc))
 
   -- every multiple one, of 1 to 256 entries, that `catches_multiple` takes
-  pub every-multiple : (asked : Ended catches-multiple.Post) → Lent n words (asked .inputs .0) (now (asked .inputs .1 .0))
-      → (values : List ℕ) → toldCaught (asked .result) ≡ answered values
+  pub every-multiple : (asked : Ended catches-multiple.Post)
+      → let (lines, (gates, (_, (entries, _)))) = asked .inputs in
+      Lent n words lines (now gates) → (values : List ℕ) → toldCaught (asked .result) ≡ answered values
       → (v : ℕ) × List·Memᴰ v written
-      × ((call : Ended catches-multiple.Post) → Lent n words (call .inputs .0) (now (call .inputs .1 .0))
-      → call .inputs .1 .1 .0 ≡ v → now (call .inputs .1 .1 .1 .0) ≡ now (asked .inputs .1 .1 .1 .0) → toldCaught (call .result) ≡ answered (1 ∷ []))
+      × ((call : Ended catches-multiple.Post)
+      → let (lines′, (gates′, (vector, (entries′, _)))) = call .inputs in
+      Lent n words lines′ (now gates′) → vector ≡ v → now entries′ ≡ now entries → toldCaught (call .result) ≡ answered (1 ∷ []))
   every-multiple asked same values taken =
-      let x : ℕ = asked .inputs .1 .1 .0 in
-      let list : List ℕ = now (asked .inputs .1 .1 .1 .0) in
-      let passed = answered-fine (multipleRows (asked .inputs .0) (now (asked .inputs .1 .0)) x list) values _ (sym taken ∙ asked .promised) .1 in
+      let (lines, (gates, (x, (entries, _)))) = asked .inputs in
+      let list : List ℕ = now entries in
+      let passed = answered-fine (multipleRows lines (now gates) x list) values _ (sym taken ∙ asked .promised) .1 in
       let w = compact-multiple _ _ _ _ k is x list (coe 0 1 (i. fine ≡ firstOf (multipleRows (same .0 i) (same .1 i) x list) fine) passed) in
       (w .0, w .1, λ call lent vector entries. w .2 (toldCaught (call .result)) (let p = call .promised in cc))

@@ -31,18 +31,25 @@ tells r = toldBy (r .number) (r .place) (r .caught ∷ [])
 
 module _ (made : Ended compact-set.Post) (zero : made .result .number ≡ 0) where
   abbrev n : ℕ
-  n = made .inputs .0
+  n = let (lines, _) = made .inputs in lines
 
   abbrev words : List ℕ
-  words = now (made .inputs .1 .0)
+  words = let (_, (gates, _)) = made .inputs in now gates
+
+  -- the room, before and after
+  abbrev old : List ℕ
+  old = let (_, (_, (room, _))) = made .inputs in now room
+
+  abbrev left : List ℕ
+  left = let (_, (_, (room-after, _))) = made .exit in now room-after
 
   abbrev k : ℕ
   k = made .result .count
 
   abbrev written : List ℕ
-  written = take k (now (made .exit .1 .1 .0))
+  written = take k left
 
-  is : MakesCompact n words (now (made .inputs .1 .1 .0)) (k ∷ []) (now (made .exit .1 .1 .0))
+  is : MakesCompact n words old (k ∷ []) left
   is = compact-set-in-c .as-said made zero
 
   pub at-most : (gs : List Gate) × Circuit n words gs
@@ -52,17 +59,18 @@ module _ (made : Ended compact-set.Post) (zero : made .result .number ≡ 0) whe
   pub by-the-rule : (gs : List Gate) × Circuit n words gs × ((faults : List Fault) × Class n gs 1 faults × Picks n gs faults written)
   by-the-rule = (is .gs, is .circuit, (is .faults, is .stuck-at, compact-picks _ _ _ _ k is))
 
-  pub every-single : (asked : Ended catches.Post) → Lent n words (asked .inputs .0) (now (asked .inputs .1 .0))
-      → asked .inputs .1 .1 .1 .0 .class ≡ 1 → asked .result .number ≡ 0
+  pub every-single : (asked : Ended catches.Post)
+      → let (lines, (gates, (_, (fault, _)))) = asked .inputs in
+      Lent n words lines (now gates) → fault .class ≡ 1 → asked .result .number ≡ 0
       → (v : ℕ) × List·Memᴰ v written
-      × ((call : Ended catches.Post) → Lent n words (call .inputs .0) (now (call .inputs .1 .0))
-      → call .inputs .1 .1 .0 ≡ v → call .inputs .1 .1 .1 .0 ≡ asked .inputs .1 .1 .1 .0 → (call .result .number ≡ 0) × (call .result .caught ≡ 1))
+      × ((call : Ended catches.Post)
+      → let (lines′, (gates′, (vector, (fault′, _)))) = call .inputs in
+      Lent n words lines′ (now gates′) → vector ≡ v → fault′ ≡ fault → (call .result .number ≡ 0) × (call .result .caught ≡ 1))
   every-single asked same class none =
-      let x : ℕ = asked .inputs .1 .1 .0 in
-      let f : Fault = asked .inputs .1 .1 .1 .0 in
+      let (lines, (gates, (x, (f, _)))) = asked .inputs in
       let taken = tells-answer _ (asked .result .place) _ (asked .result .caught ∷ []) .1 (none, refl) in
       let p = told-in-c 1 refusing.catches-refuses asked _ (asked .promised) in
-      let passed = answered-fine (catchRows (asked .inputs .0) (now (asked .inputs .1 .0)) x f) _ _ (sym taken ∙ p) .1 in
+      let passed = answered-fine (catchRows lines (now gates) x f) _ _ (sym taken ∙ p) .1 in
       let w = compact-single _ _ _ _ k is x f (coe 0 1 (i. fine ≡ firstOf (catchRows (same .0 i) (same .1 i) x f) fine) passed) class in (
         w .0,
         w .1,
@@ -72,18 +80,20 @@ module _ (made : Ended compact-set.Post) (zero : made .result .number ≡ 0) whe
             (r .0, let e = r .1 in cc),
       )
 
-  pub every-multiple : (asked : Ended catches-multiple.Post) → Lent n words (asked .inputs .0) (now (asked .inputs .1 .0))
-      → asked .result .number ≡ 0
+  pub every-multiple : (asked : Ended catches-multiple.Post)
+      → let (lines, (gates, (_, (entries, _)))) = asked .inputs in
+      Lent n words lines (now gates) → asked .result .number ≡ 0
       → (v : ℕ) × List·Memᴰ v written
-      × ((call : Ended catches-multiple.Post) → Lent n words (call .inputs .0) (now (call .inputs .1 .0))
-      → call .inputs .1 .1 .0 ≡ v → now (call .inputs .1 .1 .1 .0) ≡ now (asked .inputs .1 .1 .1 .0)
+      × ((call : Ended catches-multiple.Post)
+      → let (lines′, (gates′, (vector, (entries′, _)))) = call .inputs in
+      Lent n words lines′ (now gates′) → vector ≡ v → now entries′ ≡ now entries
       → (call .result .number ≡ 0) × (call .result .caught ≡ 1))
   every-multiple asked same none =
-      let x : ℕ = asked .inputs .1 .1 .0 in
-      let list : List ℕ = now (asked .inputs .1 .1 .1 .0) in
+      let (lines, (gates, (x, (entries, _)))) = asked .inputs in
+      let list : List ℕ = now entries in
       let taken = tells-answer _ (asked .result .place) _ (asked .result .caught ∷ []) .1 (none, refl) in
       let p = told-in-c 1 refusing.catches-multiple-refuses asked _ (asked .promised) in
-      let passed = answered-fine (multipleRows (asked .inputs .0) (now (asked .inputs .1 .0)) x list) _ _ (sym taken ∙ p) .1 in
+      let passed = answered-fine (multipleRows lines (now gates) x list) _ _ (sym taken ∙ p) .1 in
       let w = compact-multiple _ _ _ _ k is x list (coe 0 1 (i. fine ≡ firstOf (multipleRows (same .0 i) (same .1 i) x list) fine) passed) in (
         w .0,
         w .1,

@@ -9,70 +9,67 @@ use Rattle.job.proofs.write_job.Reads as write-job
 use Rattle.answers.specs.Fields.{fields}
 use Rattle.nufsadeem.proofs.jobs.nuf_read_job.Reads as nuf-read-job
 use Rattle.nufsadeem.proofs.jobs.nuf_write_job.Reads as nuf-write-job
+use Rattle.demands.proofs.Answering.{Ended}
 use Rattle.demands.proofs.ImagesPromised.{Writer, Reader, plainly, by-fields}
-
--- a call that a contract allows: its lifetimes, what it is given, what it returns, what it leaves, and that the contract holds of them
-abbrev pub Allowed : {L : Type 0} {Inputs Result Exit : L → Type 0} → ((κs : L) → Inputs κs → Result κs → Exit κs → Type 0) → Type 0
-Allowed {L} {Inputs} {Result} {Exit} Post = (κs : L) × (a : Inputs κs) × (r : Result κs) × (e : Exit κs) × Post κs a r e
 
 pub write-job-writes : Writer
 write-job-writes = record {
-  Call = Allowed write-job.Post;
-  lines = λ c. c .1 .0;
-  classes = λ c. c .1 .1 .0;
-  gates = λ c. now (c .1 .1 .1 .0);
-  vectors = λ c. now (c .1 .1 .1 .1 .0);
-  room = λ c. now (c .1 .1 .1 .1 .1 .0);
-  left = λ c. now (c .3 .1 .1 .1 .1 .0);
+  Call = Ended write-job.Post;
+  lines = λ call. let (lines, _) = call .inputs in lines;
+  classes = λ call. let (_, (classes, _)) = call .inputs in classes;
+  gates = λ call. let (_, (_, (gates, _))) = call .inputs in now gates;
+  vectors = λ call. let (_, (_, (_, (vectors, _)))) = call .inputs in now vectors;
+  room = λ call. let (_, (_, (_, (_, (out, _))))) = call .inputs in now out;
+  left = λ call. let (_, (_, (_, (_, (out-after, _))))) = call .exit in now out-after;
   Saying = Told;
   tell = λ told. told;
   answering = plainly;
-  said = λ c. toldWritten (c .2);
-  promise = λ c. c .4;
+  said = λ call. toldWritten (call .result);
+  promise = λ call. call .promised;
 }
 
 pub read-job-reads : Reader
 read-job-reads = record {
-  Call = Allowed read-job.Post;
-  bytes = λ c. now (c .1 .0);
-  gateRoom = λ c. now (c .1 .1 .0);
-  vectorRoom = λ c. now (c .1 .1 .1 .0);
-  gates = λ c. now (c .3 .1 .0);
-  vectors = λ c. now (c .3 .1 .1 .0);
+  Call = Ended read-job.Post;
+  bytes = λ call. let (bytes, _) = call .inputs in now bytes;
+  gateRoom = λ call. let (_, (gates, _)) = call .inputs in now gates;
+  vectorRoom = λ call. let (_, (_, (vectors, _))) = call .inputs in now vectors;
+  gates = λ call. let (_, (gates-after, _)) = call .exit in now gates-after;
+  vectors = λ call. let (_, (_, (vectors-after, _))) = call .exit in now vectors-after;
   Saying = Told;
   tell = λ told. told;
   answering = plainly;
-  said = λ c. toldRead (c .2);
-  promise = λ c. c .4;
+  said = λ call. toldRead (call .result);
+  promise = λ call. call .promised;
 }
 
 pub nuf-write-job-writes : Writer
 nuf-write-job-writes = record {
-  Call = Allowed nuf-write-job.Post;
-  lines = λ c. c .1 .0;
-  classes = λ c. c .1 .1 .0;
-  gates = λ c. now (c .1 .1 .1 .0);
-  vectors = λ c. now (c .1 .1 .1 .1 .0);
-  room = λ c. now (c .1 .1 .1 .1 .1 .0);
-  left = λ c. now (c .3 .1 .1 .1 .1 .0);
+  Call = Ended nuf-write-job.Post;
+  lines = λ call. let (lines, _) = call .inputs in lines;
+  classes = λ call. let (_, (classes, _)) = call .inputs in classes;
+  gates = λ call. let (_, (_, (gates, _))) = call .inputs in now gates;
+  vectors = λ call. let (_, (_, (_, (vectors, _)))) = call .inputs in now vectors;
+  room = λ call. let (_, (_, (_, (_, (out, _))))) = call .inputs in now out;
+  left = λ call. let (_, (_, (_, (_, (out-after, _))))) = call .exit in now out-after;
   Saying = List ℕ;
   tell = fields 1;
   answering = by-fields 1;
-  said = λ c. c .2 .number ∷ c .2 .place ∷ c .2 .count ∷ [];
-  promise = λ c. c .4;
+  said = λ call. call .result .number ∷ call .result .place ∷ call .result .count ∷ [];
+  promise = λ call. call .promised;
 }
 
 pub nuf-read-job-reads : Reader
 nuf-read-job-reads = record {
-  Call = Allowed nuf-read-job.Post;
-  bytes = λ c. now (c .1 .0);
-  gateRoom = λ c. now (c .1 .1 .0);
-  vectorRoom = λ c. now (c .1 .1 .1 .0);
-  gates = λ c. now (c .3 .1 .0);
-  vectors = λ c. now (c .3 .1 .1 .0);
+  Call = Ended nuf-read-job.Post;
+  bytes = λ call. let (bytes, _) = call .inputs in now bytes;
+  gateRoom = λ call. let (_, (gates, _)) = call .inputs in now gates;
+  vectorRoom = λ call. let (_, (_, (vectors, _))) = call .inputs in now vectors;
+  gates = λ call. let (_, (gates-after, _)) = call .exit in now gates-after;
+  vectors = λ call. let (_, (_, (vectors-after, _))) = call .exit in now vectors-after;
   Saying = List ℕ;
   tell = fields 4;
   answering = by-fields 4;
-  said = λ c. c .2 .number ∷ c .2 .place ∷ c .2 .lines ∷ c .2 .classes ∷ c .2 .gates ∷ c .2 .vectors ∷ [];
-  promise = λ c. c .4;
+  said = λ call. call .result .number ∷ call .result .place ∷ call .result .lines ∷ call .result .classes ∷ call .result .gates ∷ call .result .vectors ∷ [];
+  promise = λ call. call .promised;
 }

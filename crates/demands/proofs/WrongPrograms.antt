@@ -103,7 +103,8 @@ rooms-are = (refl, refl)
 
 -- 1. a call that refuses all jobs: of the sample job, in lists of 6 words and 3 vectors, whatever number and place it tells
 pub refuses-all-jobs : (call : Ended read-job.Post)
-    → (now (call .inputs .0) ≡ sampleJob) × (length (now (call .inputs .1 .0)) ≡ 6) × (length (now (call .inputs .1 .1 .0)) ≡ 3)
+    → let (bytes, (gates, (vectors, _))) = call .inputs in
+    (now bytes ≡ sampleJob) × (length (now gates) ≡ 6) × (length (now vectors) ≡ 3)
     → (refusal : Refusal) → call .result ≡ Refused refusal → ⊥
 refuses-all-jobs call asked refusal wrong =
     let p = call .promised .0 in
@@ -114,8 +115,9 @@ refuses-all-jobs call asked refusal wrong =
 
 -- the judge is asked for the stuck-at faults of the sample circuit by a set
 abbrev JudgedBy : List ℕ → Ended judge.Post → Type 0
-JudgedBy xs call = (call .inputs .0 ≡ 3) × (now (call .inputs .1 .0) ≡ sampleWords) × (now (call .inputs .1 .1 .0) ≡ xs)
-    × (call .inputs .1 .1 .1 .0 ≡ 1)
+JudgedBy xs call =
+    let (lines, (gates, (vectors, (class, _)))) = call .inputs in
+    (lines ≡ 3) × (now gates ≡ sampleWords) × (now vectors ≡ xs) × (class ≡ 1)
 
 judge-promise : (xs : List ℕ) (call : Ended judge.Post) → JudgedBy xs call → toldVerdict (call .result) ≡ promisedVerdict xs
 judge-promise xs call asked = let p = call .promised in cc
@@ -129,14 +131,20 @@ complete-to-all call asked number total wrong =
 
 -- the compact set of a circuit of 3 lines is made in an empty room of 5 words
 abbrev MadeFor : List ℕ → Ended compact-set.Post → Type 0
-MadeFor words call = (call .inputs .0 ≡ 3) × (now (call .inputs .1 .0) ≡ words) × (now (call .inputs .1 .1 .0) ≡ room)
+MadeFor words call =
+    let (lines, (gates, (lent, _))) = call .inputs in
+    (lines ≡ 3) × (now gates ≡ words) × (now lent ≡ room)
 
-room-promise : (words : List ℕ) (call : Ended compact-set.Post) → MadeFor words call → now (call .exit .1 .1 .0) ≡ promisedRoom words
+-- what it leaves in the room
+abbrev roomAfter : Ended compact-set.Post → List ℕ
+roomAfter call = let (_, (_, (room-after, _))) = call .exit in now room-after
+
+room-promise : (words : List ℕ) (call : Ended compact-set.Post) → MadeFor words call → roomAfter call ≡ promisedRoom words
 room-promise words call asked = let p = call .promised .1 in cc
 
 -- 3. a generator with one fixed set: whatever it leaves in the room, for the sample circuit and for that with no gate
 pub one-fixed-set : (sample none : Ended compact-set.Post) → MadeFor sampleWords sample → MadeFor [] none
-    → (fixed : List ℕ) → now (sample .exit .1 .1 .0) ≡ fixed → now (none .exit .1 .1 .0) ≡ fixed → ⊥
+    → (fixed : List ℕ) → roomAfter sample ≡ fixed → roomAfter none ≡ fixed → ⊥
 one-fixed-set sample none made other fixed a b =
     let same = sym (rooms-are .0) ∙ sym (room-promise _ sample made) ∙ a ∙ sym b ∙ room-promise _ none other ∙ rooms-are .1 in
     let z : _≡_ {A = ℕ} 3 7 = cc in
@@ -144,11 +152,13 @@ one-fixed-set sample none made other fixed a b =
 
 -- 4. a dropper that changes nothing: of a list whose one fault the vector 3 catches
 pub drops-nothing : (call : Ended drop-call.Post)
-    → (call .inputs .0 ≡ 3) × (now (call .inputs .1 .0) ≡ sampleWords) × (call .inputs .1 .1 .0 ≡ 3) × (now (call .inputs .1 .1 .1 .0) ≡ oneFault)
-    → now (call .exit .1 .1 .1 .0) ≡ oneFault → ⊥
+    → let (lines, (gates, (vector, (list, _)))) = call .inputs in
+    let (_, (_, (_, (list-after, _)))) = call .exit in
+    (lines ≡ 3) × (now gates ≡ sampleWords) × (vector ≡ 3) × (now list ≡ oneFault) → now list-after ≡ oneFault → ⊥
 drops-nothing call asked wrong =
     let p = call .promised .1 in
-    let promise : now (call .exit .1 .1 .1 .0) ≡ promisedList = cc in
+    let (_, (_, (_, (list-after, _)))) = call .exit in
+    let promise : now list-after ≡ promisedList = cc in
     let left = sym wrong ∙ promise ∙ list-is in
     let z : _≡_ {A = ℕ} 2 0 = cc in
     omega arith
@@ -163,7 +173,7 @@ first-vector-only one all asked-one asked-all r first wrong =
     omega arith
 
 -- 6. a picker that chooses well once and then repeats itself: 0 is the best first pick, and again 0 is wrong, whatever follows
-pub repeats-itself : (call : Ended compact-set.Post) → MadeFor sampleWords call → (rest : List ℕ) → now (call .exit .1 .1 .0) ≡ 0 ∷ 0 ∷ rest → ⊥
+pub repeats-itself : (call : Ended compact-set.Post) → MadeFor sampleWords call → (rest : List ℕ) → roomAfter call ≡ 0 ∷ 0 ∷ rest → ⊥
 repeats-itself call made rest wrong =
     let left = sym wrong ∙ room-promise _ call made ∙ rooms-are .0 in
     let z : _≡_ {A = ℕ} 0 3 = cc in
