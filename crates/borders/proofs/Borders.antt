@@ -10,7 +10,19 @@ use Rattle.refusals.specs.Places.{firstBadFrom, inWord}
 use Rattle.circuit.specs.Gates.{gatesOf, gateAt, noGate}
 use Rattle.circuit.specs.Controls.{isControl, lessControl, moreControl, isOther}
 use Rattle.circuit.specs.Runs.{fires, step, run, forward, backward}
-use Rattle.circuit.specs.Rules.{badLines, badCounts, badGate, firstBadGate, firstBadVector, circuitSetRows, circuitRows, setRows, vectorRows, levelRows, runRows}
+use Rattle.circuit.specs.Rules.{
+  badLines,
+  badCounts,
+  badGate,
+  firstBadGate,
+  firstBadVector,
+  circuitSetRows,
+  circuitRows,
+  setRows,
+  vectorRows,
+  levelRows,
+  runRows,
+}
 use Rattle.simulator.specs.Faulty.{forceAt, stuckRun, without, changed, faulty, caught}
 use Rattle.faults.specs.Sites.{sites}
 use Rattle.faults.specs.Rules.{isStuckAt, isGate, isMissingGate, isMissingControl, isExtraControl, isFault}

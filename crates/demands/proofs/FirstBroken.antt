@@ -4,12 +4,12 @@ use mathlib.Core.Path.{_≡_, refl, sym, ap, _∙_}
 use mathlib.Core.Logic.{_↔_}
 use mathlib.Core.Bool.{true, false, false≢true}
 use mathlib.Core.List.{List, [], _∷_, _++_}
-use native.Mathlib.Omega.{arith}
 use Rattle.basics.specs.Lists.{All}
 use Rattle.refusals.specs.Tables.{Row, Told, firstOf, after}
 use Rattle.refusals.specs.Tables.Row.{refuse_at_when_}
 use Rattle.refusals.specs.Tables.Told.{answered, refused}
 use Rattle.refusals.specs.Checks.{fine}
+use Rattle.refusals.proofs.Clashes.{answered-refused, refused-answered}
 
 abbrev pub Unbroken : Row → Type 0
 Unbroken (refuse number at place when broken) = broken ≡ false
@@ -21,13 +21,10 @@ pub record FirstBroken (rows : List Row) (k p : ℕ) : Type 0 where
   pub table : rows ≡ before ++ (refuse k at p when true ∷ others)
   pub unbroken-before : All Unbroken before
 
-clash : {k p : ℕ} {values : List ℕ} → answered values ≡ refused k p → ⊥
-clash e = let z : _≡_ {A = ℕ} 0 1 = cc in omega arith
-
 -- ---- one table
 
 refused-first : (rows : List Row) (values : List ℕ) (k p : ℕ) → firstOf rows (answered values) ≡ refused k p → FirstBroken rows k p
-refused-first [] values k p e = absurd (clash e)
+refused-first [] values k p e = answered-refused e
 refused-first (refuse n at q when true ∷ rows) values k p e =
     let number : n ≡ k = cc in
     let place : q ≡ p = cc in
@@ -60,7 +57,7 @@ told-answer (refuse n at q when false ∷ rows) answer u = told-answer rows answ
 
 answer-unbroken : (rows : List Row) (values values' : List ℕ) → firstOf rows (answered values) ≡ answered values' → All Unbroken rows
 answer-unbroken [] values values' e = tt
-answer-unbroken (refuse n at q when true ∷ rows) values values' e = absurd (clash (sym e))
+answer-unbroken (refuse n at q when true ∷ rows) values values' e = refused-answered e
 answer-unbroken (refuse n at q when false ∷ rows) values values' e = (refl, answer-unbroken rows values values' e)
 
 -- where the whole table is asked, that none is broken is that it is fine
@@ -103,6 +100,6 @@ by-first {C = C} rows unbroken broken = by-told (firstOf rows fine) refl
 pub answers-exactly : {told : Told} {rows : List Row} {values : List ℕ} → Exactly told rows values
     → ((others : List ℕ) × (told ≡ answered others)) ↔ (fine ≡ firstOf rows fine)
 answers-exactly {rows = rows} {values} w = (
-  λ t. by-first rows (λ e. e) (λ k p first e. absurd (clash (sym (t .1) ∙ w .refuses k p .1 first))),
+  λ t. by-first rows (λ e. e) (λ k p first e. answered-refused (sym (t .1) ∙ w .refuses k p .1 first)),
   λ e. (values, w .answers .1 (fine-unbroken rows .0 e)),
 )

@@ -15,6 +15,7 @@ use Rattle.refusals.specs.Tables.Row.{refuse_at_when_}
 use Rattle.refusals.specs.Tables.Told.{answered, refused}
 use Rattle.refusals.specs.Checks.{fine}
 use Rattle.refusals.proofs.Tables.{Numbered}
+use Rattle.refusals.proofs.Clashes.{answered-refused, refused-answered}
 use Rattle.answers.specs.Fields.{fields}
 use Rattle.demands.proofs.FirstBroken.{Unbroken, exactly, fine-unbroken}
 use Rattle.demands.proofs.Refusing.{order, Sublist, numbers, Refuses, Leaves}
@@ -29,7 +30,7 @@ refused-told k p values some = ap (λ t. choice t (answered values) (refused k p
 
 chosen-refused : (t : Bool) (number place : ℕ) (values : List ℕ) (k p : ℕ) → choice t (answered values) (refused number place) ≡ refused k p
     → (t ≡ false) × (number ≡ k) × (place ≡ p)
-chosen-refused true number place values k p e = let z : _≡_ {A = ℕ} 0 1 = cc in absurd (omega arith)
+chosen-refused true number place values k p e = answered-refused e
 chosen-refused false number place values k p e = (refl, cc, cc)
 
 -- it tells refusal k at place p exactly if these are its number and its place, and the number is not 0
@@ -44,7 +45,7 @@ tells-refusal number place values k p = (
 picked-answered : (t : Bool) (number place : ℕ) (values answer : List ℕ) → choice t (answered values) (refused number place) ≡ answered answer
     → (t ≡ true) × (values ≡ answer)
 picked-answered true number place values answer e = (refl, cc)
-picked-answered false number place values answer e = let z : _≡_ {A = ℕ} 0 1 = cc in absurd (omega arith)
+picked-answered false number place values answer e = refused-answered e
 
 pub tells-answer : (number place : ℕ) (values answer : List ℕ) → (toldBy number place values ≡ answered answer) ↔ ((number ≡ 0) × (values ≡ answer))
 tells-answer number place values answer = (

@@ -89,7 +89,13 @@ module _ (c : Coverage) (f : Fault) where
 
   is-3 : f .class ≡ 3 → 1 ≤ f .place → f .value ≡ 0 → isMarked c f ≡ eqb (bit (getD (c .«missing_controls») (f .place - 1) 0) (f .line)) 1
   unfolding isMarked
-  is-3 e lo v = rw (le-leb 1 (f .place) lo, eq-eqb (f .value) 0 v, ne-eqb (f .class) 1 (λ q. omega arith), ne-eqb (f .class) 2 (λ q. omega arith), eq-eqb (f .class) 3 e)
+  is-3 e lo v = rw (
+    le-leb 1 (f .place) lo,
+    eq-eqb (f .value) 0 v,
+    ne-eqb (f .class) 1 (λ q. omega arith),
+    ne-eqb (f .class) 2 (λ q. omega arith),
+    eq-eqb (f .class) 3 e,
+  )
 
   is-4 : f .class ≡ 4 → 1 ≤ f .place → f .value ≡ 0 → isMarked c f ≡ eqb (bit (getD (c .«extra_controls») (f .place - 1) 0) (f .line)) 1
   unfolding isMarked

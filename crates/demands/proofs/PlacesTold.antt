@@ -5,7 +5,6 @@ use mathlib.Core.Path.{_≡_, refl, sym, ap, _∙_}
 use mathlib.Core.Logic.{_↔_, Iff·trans}
 use mathlib.Core.Bool.{Bool, true, false, not, _&&_, false≢true}
 use mathlib.Core.List.{List, [], _∷_}
-use native.Mathlib.Omega.{arith}
 use lib.Dec.{eqb}
 use borrow.Author.Tests.{eqb-true, eqb-false, eq-eqb, not-true}
 use Rattle.basics.specs.Choice.{choice}
@@ -14,6 +13,7 @@ use Rattle.basics.proofs.Tests.{by-test, and-both}
 use Rattle.refusals.specs.Tables.{Row, Told, firstOf}
 use Rattle.refusals.specs.Tables.Row.{refuse_at_when_}
 use Rattle.refusals.specs.Tables.Told.{answered, refused}
+use Rattle.refusals.proofs.Clashes.{answered-refused}
 use Rattle.demands.proofs.FirstBroken.{Unbroken, FirstBroken, exactly}
 use Rattle.demands.proofs.Refusing.{numbers, Refuses}
 use Rattle.demands.proofs.PlacesLaws.{Words, InWords}
@@ -43,11 +43,8 @@ abbrev pub once : ℕ → List ℕ → Bool
 once k [] = true
 once k (n ∷ ns) = choice (eqb n k) (lacks k ns) (once k ns)
 
-clash : {k p : ℕ} {values : List ℕ} → answered values ≡ refused k p → ⊥
-clash e = let z : _≡_ {A = ℕ} 0 1 = cc in omega arith
-
 not-told : (rows : List Row) (k p : ℕ) → lacks k (numbers rows) ≡ true → firstOf rows (answered []) ≡ refused k p → ⊥
-not-told [] k p l e = clash e
+not-told [] k p l e = answered-refused e
 not-told (refuse n at q when true ∷ rows) k p l e =
     let same : n ≡ k = cc in
     eqb-false n k (not-true (eqb n k) (and-both (not (eqb n k)) (lacks k (numbers rows)) l .0)) same
@@ -55,7 +52,7 @@ not-told (refuse n at q when false ∷ rows) k p l e = not-told rows k p (and-bo
 
 told-row : (rows : List Row) (k p : ℕ) → once k (numbers rows) ≡ true → firstOf rows (answered []) ≡ refused k p
     → All Unbroken (before k rows) × (brokenOf k rows ≡ true) × (placeOf k rows ≡ p)
-told-row [] k p o e = absurd (clash e)
+told-row [] k p o e = answered-refused e
 told-row (refuse n at q when true ∷ rows) k p o e =
     let same : n ≡ k = cc in
     let place : q ≡ p = cc in
@@ -126,5 +123,5 @@ module _ {L : Type 0} {Inputs Result Exit : L → Type 0} {Post : (κs : L) → 
         let table = exactly (firstOf (rows κs a) (answered [])) (rows κs a) [] refl in
         let exact = call .exact κs a r e post .1 in
         rule κs a .not-given .0 (unbroken-row (rows κs a) k (none-told-unbroken (rows κs a)
-        (λ j q f. clash (sym t ∙ exact .refuses j q .1 (table .refuses j q .0 f)))));
+        (λ j q f. answered-refused (sym t ∙ exact .refuses j q .1 (table .refuses j q .0 f)))));
   }

@@ -130,7 +130,8 @@ last-of class lo hi (f ∷ rest) = by-equal class 1
     (λ e. gate e _ _ _ _ refl (ap (each spaced) (choice-false (ne-eqb class 1 a) _ _ ∙ choice-true (eq-eqb class 2 e) _ _) ∙ fields-are _))
     (λ b. by-equal class 3
     (λ e. control e _ _ _ _ refl
-    (ap (each spaced) (choice-false (ne-eqb class 1 a) _ _ ∙ choice-false (ne-eqb class 2 b) _ _ ∙ choice-true (eq-eqb class 3 e) _ _) ∙ fields-are _))
+    (ap (each spaced) (choice-false (ne-eqb class 1 a) _ _ ∙ choice-false (ne-eqb class 2 b) _ _ ∙ choice-true (eq-eqb class 3 e) _ _)
+    ∙ fields-are _))
     (λ c. let e : class ≡ 4 = omega arith in extra e _ _ _ _ refl
     (ap (each spaced) (choice-false (ne-eqb class 1 a) _ _ ∙ choice-false (ne-eqb class 2 b) _ _ ∙ choice-false (ne-eqb class 3 c) _ _
     ∙ choice-true (eq-eqb class 4 e) _ _) ∙ fields-are _))))
@@ -148,7 +149,8 @@ module _ (n : ℕ) (words xs : List ℕ) (sound : Sound n words) where
         judged = judges n words xs class sound;
         last = firstText class (uncaughtOf gs xs fs);
         last-is = last-of class lo hi (uncaughtOf gs xs fs);
-        text-is = ap (λ l. textLine (letter class) (l ++ firstText class (uncaughtOf gs xs fs))) (fields-are (length (caughtOf gs xs fs) ∷ length fs ∷ []));
+        text-is = ap (λ l. textLine (letter class) (l ++ firstText class (uncaughtOf gs xs fs)))
+            (fields-are (length (caughtOf gs xs fs) ∷ length fs ∷ []));
       }
 
   -- a class's part of the text

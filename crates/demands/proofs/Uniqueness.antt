@@ -2,7 +2,6 @@
 -- allows for equal inputs are equal. `Post` is the call's `ensures`, as the check made it from the code.
 use Prim.Native.Nat.{ℕ}
 use mathlib.Core.Path.{_≡_, refl, sym, ap, _∙_}
-use native.Mathlib.Omega.{arith}
 use denote.Ref.{now}
 use Rattle.words.proofs.ones.Reads as ones
 use Rattle.words.proofs.lacking.Reads as lacking
@@ -11,6 +10,7 @@ use Rattle.refusals.specs.Checks.{found}
 use Rattle.refusals.specs.declared.Checked.{Checked}
 use Rattle.refusals.specs.declared.Checked.the-variants.{Fine, Wrong}
 use Rattle.refusals.proofs.Tables.{told-refusal}
+use Rattle.refusals.proofs.Clashes.{answered-refused, refused-answered}
 use Rattle.refusals.proofs.unless.Reads as unless
 use Rattle.refusals.proofs.in_word.Reads as in-word
 use Rattle.circuit.specs.Answers.{toldRan}
@@ -88,8 +88,8 @@ lone-zero-one κs a b equal r s e f p q = same p cc
 -- refusals
 found-one : (r s : Checked) → found r ≡ found s → r ≡ s
 found-one Fine Fine e = refl
-found-one Fine (Wrong q) e = let z : _≡_ {A = ℕ} 0 1 = cc in absurd (omega arith)
-found-one (Wrong p) Fine e = let z : _≡_ {A = ℕ} 0 1 = cc in absurd (omega arith)
+found-one Fine (Wrong q) e = answered-refused e
+found-one (Wrong p) Fine e = refused-answered e
 found-one (Wrong p) (Wrong q) e = ap Wrong (told-refusal p q e)
 
 pub unless-one : OneResult unless.Post

@@ -14,6 +14,7 @@ use Rattle.refusals.specs.Tables.{Told, firstOf, after}
 use Rattle.refusals.specs.Tables.Told.{answered}
 use Rattle.refusals.specs.Places.{firstBadFrom, inWord}
 use Rattle.refusals.specs.declared.Refusal.{Refusal}
+use Rattle.refusals.proofs.Clashes.{refused-answered}
 use Rattle.circuit.specs.Gates.{gatesOf, gateAt, noGate}
 use Rattle.circuit.specs.Controls.{isControl, isOther}
 use Rattle.circuit.specs.Runs.{fires, step, run}
@@ -67,8 +68,8 @@ pub verdicts-are : (promisedVerdict (0 ∷ 7 ∷ []) ≡ answered (15 ∷ 18 ∷
     × (promisedVerdict (0 ∷ []) ≡ answered (9 ∷ 18 ∷ 0 ∷ 1 ∷ 0 ∷ 0 ∷ 0 ∷ []))
     × (promisedVerdict (0 ∷ 3 ∷ 5 ∷ []) ≡ answered (18 ∷ 18 ∷ 1 ∷ 0 ∷ 0 ∷ 0 ∷ 0 ∷ []))
 unfolding sampleWords upFrom keep each some bit flip force allOn allOnes linesOn gatesOf isControl step fires run forceAt stuckRun faulty caught
-    sites faultOf stuckFaults classFaults isClass caughtBySome verdict badLines badCounts badGate firstBadGate firstBadVector circuitSetRows setRows classRows
-    judgeRows firstBadFrom
+    sites faultOf stuckFaults classFaults isClass caughtBySome verdict badLines badCounts badGate firstBadGate firstBadVector circuitSetRows
+    setRows classRows judgeRows firstBadFrom
 verdicts-are = (refl, refl, refl)
 
 -- a list of one record, gate 1 missing, after vector 3, which catches it
@@ -79,8 +80,8 @@ abbrev pub promisedList : List ℕ
 promisedList = after (dropRows 3 sampleWords 3 oneFault) (wordsOf (dropped (gatesOf sampleWords) 3 (faultsOf oneFault))) oneFault
 
 pub list-is : promisedList ≡ 0 ∷ 0 ∷ 0 ∷ 0 ∷ []
-unfolding sampleWords badLines badCounts isOther dropRows recordRows circuitSetRows circuitRows vectorRows badRecord isFault isStuckAt isGate isMissingGate isMissingControl
-    isExtraControl noFault faultsOf firstBadRecord firstBadGate firstBadFrom badGate isControl bit flip allOn gatesOf gateAt noGate fires
+unfolding sampleWords badLines badCounts isOther dropRows recordRows circuitSetRows circuitRows vectorRows badRecord isFault isStuckAt isGate
+    isMissingGate isMissingControl isExtraControl noFault faultsOf firstBadRecord firstBadGate firstBadFrom badGate isControl bit flip allOn gatesOf gateAt noGate fires
     step run without faulty caught uncaught dropped wordsOf keep inWord
 list-is = refl
 
@@ -95,8 +96,8 @@ promisedRoom words = after (compactRows 3 words (length room))
 -- the sample circuit, and the circuit with no gate
 pub rooms-are : (promisedRoom sampleWords ≡ 0 ∷ 3 ∷ 5 ∷ 0 ∷ 0 ∷ []) × (promisedRoom [] ≡ 0 ∷ 7 ∷ 0 ∷ 0 ∷ 0 ∷ [])
 unfolding sampleWords upFrom keep each some sumFrom bit flip force allOn allOnes linesOn gatesOf isControl step fires run forceAt stuckRun faulty
-    caught sites faultOf stuckFaults caughtBySome uncaughtOf log2In log2 score bestOf best picks siteCount bound compactSet badLines badCounts badGate firstBadGate
-    circuitSetRows circuitRows compactRows firstBadFrom
+    caught sites faultOf stuckFaults caughtBySome uncaughtOf log2In log2 score bestOf best picks siteCount bound compactSet badLines badCounts
+    badGate firstBadGate circuitSetRows circuitRows compactRows firstBadFrom
 rooms-are = (refl, refl)
 
 -- ---- the wrong programs
@@ -109,9 +110,7 @@ pub refuses-all-jobs : (call : Ended read-job.Post)
 refuses-all-jobs call asked refusal wrong =
     let p = call .promised .0 in
     let promise : toldRead (call .result) ≡ promisedRead = cc in
-    let told = ap toldRead (sym wrong) ∙ promise ∙ read-is in
-    let z : _≡_ {A = ℕ} 0 1 = cc in
-    omega arith
+    refused-answered (ap toldRead (sym wrong) ∙ promise ∙ read-is)
 
 -- the judge is asked for the stuck-at faults of the sample circuit by a set
 abbrev JudgedBy : List ℕ → Ended judge.Post → Type 0
