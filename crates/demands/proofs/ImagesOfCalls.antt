@@ -55,7 +55,7 @@ nuf-write-job-writes = record {
   Saying = List ℕ;
   tell = fields 1;
   answering = by-fields 1;
-  said = λ call. call .result .number ∷ call .result .place ∷ call .result .count ∷ [];
+  said = λ call. let r = call .result in r .number ∷ r .place ∷ r .count ∷ [];
   promise = λ call. call .promised;
 }
 
@@ -70,6 +70,6 @@ nuf-read-job-reads = record {
   Saying = List ℕ;
   tell = fields 4;
   answering = by-fields 4;
-  said = λ call. call .result .number ∷ call .result .place ∷ call .result .lines ∷ call .result .classes ∷ call .result .gates ∷ call .result .vectors ∷ [];
+  said = λ call. let r = call .result in r .number ∷ r .place ∷ r .lines ∷ r .classes ∷ r .gates ∷ r .vectors ∷ [];
   promise = λ call. call .promised;
 }

@@ -7,7 +7,7 @@ use Rattle.refusals.specs.Checks.{fine}
 use Rattle.refusals.specs.declared.Refusal.{Refusal}
 use Rattle.circuit.specs.Answers.{toldRan}
 use Rattle.circuit.specs.declared.Ran.the-variants as ran
-use Rattle.simulator.specs.Answers.{toldOutput, toldCaught, toldMade}
+use Rattle.simulator.specs.Answers.{toldCaught, toldMade}
 use Rattle.simulator.specs.declared.Caught.the-variants as caught
 use Rattle.simulator.specs.declared.Made.the-variants as made
 use Rattle.faults.specs.declared.Fault.{Fault}

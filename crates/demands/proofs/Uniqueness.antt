@@ -1,6 +1,5 @@
 -- Each public call's contract allows one result, and one final content of the memory that it was lent: two results that it
 -- allows for equal inputs are equal. `Post` is the call's `ensures`, as the check made it from the code.
-use Prim.Native.Nat.{ℕ}
 use mathlib.Core.Path.{_≡_, refl, sym, ap, _∙_}
 use denote.Ref.{now}
 use Rattle.words.proofs.ones.Reads as ones

@@ -81,9 +81,16 @@ promisedList = after (dropRows 3 sampleWords 3 oneFault) (wordsOf (dropped (gate
 
 pub list-is : promisedList ≡ 0 ∷ 0 ∷ 0 ∷ 0 ∷ []
 unfolding sampleWords badLines badCounts isOther dropRows recordRows circuitSetRows circuitRows vectorRows badRecord isFault isStuckAt isGate
-    isMissingGate isMissingControl isExtraControl noFault faultsOf firstBadRecord firstBadGate firstBadFrom badGate isControl bit flip allOn gatesOf gateAt noGate fires
-    step run without faulty caught uncaught dropped wordsOf keep inWord
+    isMissingGate isMissingControl isExtraControl noFault faultsOf firstBadRecord firstBadGate firstBadFrom badGate isControl bit flip allOn gatesOf
+    gateAt noGate fires step run without faulty caught uncaught dropped wordsOf keep inWord
 list-is = refl
+
+-- it does not stay as it was
+pub list-changes : {left : List ℕ} → left ≡ promisedList → left ≡ oneFault → ⊥
+list-changes promise wrong =
+    let same = sym wrong ∙ promise ∙ list-is in
+    let z : _≡_ {A = ℕ} 2 0 = cc in
+    omega arith
 
 -- a room of 5 words after the compact set of a circuit of 3 lines
 abbrev pub room : List ℕ
@@ -99,6 +106,19 @@ unfolding sampleWords upFrom keep each some sumFrom bit flip force allOn allOnes
     caught sites faultOf stuckFaults caughtBySome uncaughtOf log2In log2 score bestOf best picks siteCount bound compactSet badLines badCounts
     badGate firstBadGate circuitSetRows circuitRows compactRows firstBadFrom
 rooms-are = (refl, refl)
+
+-- they differ, and the first does not begin with 0 twice
+pub rooms-differ : {sample none : List ℕ} → sample ≡ promisedRoom sampleWords → none ≡ promisedRoom [] → sample ≡ none → ⊥
+rooms-differ sample none wrong =
+    let same = sym (rooms-are .0) ∙ sym sample ∙ wrong ∙ none ∙ rooms-are .1 in
+    let z : _≡_ {A = ℕ} 3 7 = cc in
+    omega arith
+
+pub picks-another : {sample rest : List ℕ} → sample ≡ promisedRoom sampleWords → sample ≡ 0 ∷ 0 ∷ rest → ⊥
+picks-another sample wrong =
+    let same = sym wrong ∙ sample ∙ rooms-are .0 in
+    let z : _≡_ {A = ℕ} 0 3 = cc in
+    omega arith
 
 -- ---- the wrong programs
 
@@ -144,10 +164,7 @@ room-promise words call asked = let p = call .promised .1 in cc
 -- 3. a generator with one fixed set: whatever it leaves in the room, for the sample circuit and for that with no gate
 pub one-fixed-set : (sample none : Ended compact-set.Post) → MadeFor sampleWords sample → MadeFor [] none
     → (fixed : List ℕ) → roomAfter sample ≡ fixed → roomAfter none ≡ fixed → ⊥
-one-fixed-set sample none made other fixed a b =
-    let same = sym (rooms-are .0) ∙ sym (room-promise _ sample made) ∙ a ∙ sym b ∙ room-promise _ none other ∙ rooms-are .1 in
-    let z : _≡_ {A = ℕ} 3 7 = cc in
-    omega arith
+one-fixed-set sample none made other fixed a b = rooms-differ (room-promise _ sample made) (room-promise _ none other) (a ∙ sym b)
 
 -- 4. a dropper that changes nothing: of a list whose one fault the vector 3 catches
 pub drops-nothing : (call : Ended drop-call.Post)
@@ -158,9 +175,7 @@ drops-nothing call asked wrong =
     let p = call .promised .1 in
     let (_, (_, (_, (list-after, _)))) = call .exit in
     let promise : now list-after ≡ promisedList = cc in
-    let left = sym wrong ∙ promise ∙ list-is in
-    let z : _≡_ {A = ℕ} 2 0 = cc in
-    omega arith
+    list-changes promise wrong
 
 -- 5. a judge that looks at the first vector only: what is right of the set 0 is wrong of the set 0, 3, 5
 pub first-vector-only : (one all : Ended judge.Post) → JudgedBy (0 ∷ []) one → JudgedBy (0 ∷ 3 ∷ 5 ∷ []) all
@@ -173,10 +188,7 @@ first-vector-only one all asked-one asked-all r first wrong =
 
 -- 6. a picker that chooses well once and then repeats itself: 0 is the best first pick, and again 0 is wrong, whatever follows
 pub repeats-itself : (call : Ended compact-set.Post) → MadeFor sampleWords call → (rest : List ℕ) → roomAfter call ≡ 0 ∷ 0 ∷ rest → ⊥
-repeats-itself call made rest wrong =
-    let left = sym wrong ∙ room-promise _ call made ∙ rooms-are .0 in
-    let z : _≡_ {A = ℕ} 0 3 = cc in
-    omega arith
+repeats-itself call made rest wrong = picks-another (room-promise _ call made) wrong
 
 -- 7. a made-up number caught: of the set 0, 7 any number but 15
 pub made-up-number : (call : Ended judge.Post) → JudgedBy (0 ∷ 7 ∷ []) call

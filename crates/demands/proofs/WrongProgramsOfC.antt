@@ -14,8 +14,8 @@ use Rattle.nufsadeem.proofs.nuf_drop.Reads as drop
 use Rattle.nufsadeem.proofs.judging.nuf_judge.Reads as judge
 use Rattle.nufsadeem.proofs.jobs.nuf_read_job.Reads as read-job
 use Rattle.demands.proofs.Answering.{Ended}
-use Rattle.demands.proofs.WrongPrograms.{promisedRead, read-is, promisedVerdict, verdicts-are, oneFault, promisedList, list-is}
-use Rattle.demands.proofs.WrongPrograms.{room, promisedRoom, rooms-are}
+use Rattle.demands.proofs.WrongPrograms.{promisedRead, read-is, promisedVerdict, verdicts-are, oneFault, promisedList, list-changes}
+use Rattle.demands.proofs.WrongPrograms.{room, promisedRoom, rooms-differ, picks-another}
 
 -- 1. a call that refuses all jobs: a number that is not 0 of the sample job
 pub refuses-all-jobs : (call : Ended read-job.Post)
@@ -64,10 +64,7 @@ room-promise words call asked = let p = call .promised .1 in cc
 -- 3. a generator with one fixed set: whatever it leaves in the room, for the sample circuit and for that with no gate
 pub one-fixed-set : (sample none : Ended compact-set.Post) → MadeFor sampleWords sample → MadeFor [] none
     → (fixed : List ℕ) → roomAfter sample ≡ fixed → roomAfter none ≡ fixed → ⊥
-one-fixed-set sample none made other fixed a b =
-    let same = sym (rooms-are .0) ∙ sym (room-promise _ sample made) ∙ a ∙ sym b ∙ room-promise _ none other ∙ rooms-are .1 in
-    let z : _≡_ {A = ℕ} 3 7 = cc in
-    omega arith
+one-fixed-set sample none made other fixed a b = rooms-differ (room-promise _ sample made) (room-promise _ none other) (a ∙ sym b)
 
 -- 4. a dropper that changes nothing: of a list whose one fault the vector 3 catches
 pub drops-nothing : (call : Ended drop.Post)
@@ -78,9 +75,7 @@ drops-nothing call asked wrong =
     let p = call .promised .1 in
     let (_, (_, (_, (list-after, _)))) = call .exit in
     let promise : now list-after ≡ promisedList = cc in
-    let left = sym wrong ∙ promise ∙ list-is in
-    let z : _≡_ {A = ℕ} 2 0 = cc in
-    omega arith
+    list-changes promise wrong
 
 -- 5. a judge that looks at the first vector only: the number that is right of the set 0 is wrong of the set 0, 3, 5
 pub first-vector-only : (one all : Ended judge.Post) → JudgedBy (0 ∷ []) one → JudgedBy (0 ∷ 3 ∷ 5 ∷ []) all
@@ -94,10 +89,7 @@ first-vector-only one all asked-one asked-all wrong =
 
 -- 6. a picker that chooses well once and then repeats itself: 0 is the best first pick, and again 0 is wrong, whatever follows
 pub repeats-itself : (call : Ended compact-set.Post) → MadeFor sampleWords call → (rest : List ℕ) → roomAfter call ≡ 0 ∷ 0 ∷ rest → ⊥
-repeats-itself call made rest wrong =
-    let left = sym wrong ∙ room-promise _ call made ∙ rooms-are .0 in
-    let z : _≡_ {A = ℕ} 0 3 = cc in
-    omega arith
+repeats-itself call made rest wrong = picks-another (room-promise _ call made) wrong
 
 -- 7. a made-up number caught: of the set 0, 7 any number but 15
 pub made-up-number : (call : Ended judge.Post) → JudgedBy (0 ∷ 7 ∷ []) call → call .result .caught ≢ 15 → ⊥
