@@ -26,10 +26,12 @@ no_report() {
 [ -r "$1" ] || no_report "$1 can't be read"
 [ -x "${program[-1]}" ] || no_report "${program[-1]} is not there; rt check report makes it"
 
-said=$(mktemp)
-trap 'rm -f "$said"' EXIT
+# the job is looked at twice, so what can be read only once is copied first
+said=$(mktemp) job=$(mktemp)
+trap 'rm -f "$said" "$job"' EXIT
+cat "$1" >"$job" || no_report "$1 can't be read"
 # the full stop keeps the last LF, which a substitution would drop
-text=$("${program[@]}" <"$1" 2>"$said" && echo .) || no_report "the program failed"
+text=$("${program[@]}" <"$job" 2>"$said" && echo .) || no_report "the program failed"
 text=${text%.}
 printf %s "$text"
 if [ -s "$said" ]; then
@@ -43,7 +45,7 @@ refused="^E $number $number$lf\$"
 if [[ $text =~ $refused ]]; then exit 2; fi
 lines=("S $number $number (ok|$number $number $number)" "M $number $number (ok|$number)"
     "C $number $number (ok|$number $number)" "X $number $number (ok|$number $number)")
-wanted=$(od -An -tu1 -j4 -N1 "$1")
+wanted=$(od -An -tu1 -j4 -N1 "$job")
 whole="^J $number $number $number$lf"
 complete=$whole
 for class in 0 1 2 3; do

@@ -1,10 +1,10 @@
 #!/usr/bin/env python3
 """Writes a job to standard output. Put your own circuit, vectors and classes here, then
 
-    python3 examples/make_job.py > my.job
-    target/bin/report < my.job
+    python3 examples/make_job.py > my.job && examples/judge.sh my.job
 
-Nothing is checked here: a job that breaks a rule is made all the same, and the report tells which rule and where.
+A job that breaks a rule is made all the same, and the report tells which rule and where. Only what no field of the
+image can hold ends this script with an error: a number below 0 or too large, a class of another letter.
 The bytes are those of docs/SCOPE.md, section 5.
 """
 import struct

@@ -7,7 +7,8 @@
  * broken is told.
  *
  * Memory. A refused call changes nothing that it was lent. A call that answers writes the front of what it was lent and leaves the
- * rest as it was; only dropping fills the rest with zeros. An empty list may have any pointer, also a null one.
+ * rest as it was; only dropping fills the rest with zeros. An empty list may have any pointer, also a null one. A list that a call
+ * writes must not overlap another list of that call: then nothing is promised.
  *
  * Lists. A gate is three words: its controls as a mask, a spare word that is 0, its target line. A fault in a list of words is
  * four: class, place, line, value. Lengths count words, bytes or records, as the pointer's type says. Words after the last whole

@@ -40,7 +40,7 @@ abbrev pub flat : List Gate → List ℕ
 flat [] = []
 flat (g ∷ gs) = g .controls ∷ g .spare ∷ g .target ∷ flat gs
 
--- some words are a circuit of n lines, whose gates are these
+-- some words are a circuit of n lines, whose gates are these; that spare words are 0 is said by `Valid`
 pub record Circuit (n : ℕ) (words : List ℕ) (gs : List Gate) : Type 0 where
   pub lent : words ≡ flat gs
   pub some-lines : 1 ≤ n
