@@ -1,5 +1,6 @@
 -- Every border holds: each row by computing, with all definitions unfolded, and the longest job by the law of jobs that are written and
--- read. A row that is wrong is shown by the check, with its number, what came and what was expected. Assumes nothing.
+-- read. The check names the table in which a row is wrong, and where that is not too much to print the row too, with its number,
+-- what came and what was expected. Assumes nothing.
 use mathlib.Core.Path.{refl}
 use Rattle.basics.specs.Lists.{upFrom, keep, each, some}
 use Rattle.basics.specs.Sums.{sumFrom}
