@@ -20,6 +20,13 @@ Inv-loop lines gates level state end now₀ taken₀ now taken =
 abbrev μ-loop : tie.MeasureT-loop
 μ-loop lines gates level state end now₀ taken₀ now taken = end - taken
 
+-- places in the code, each from a later one
+abbrev entry : tie.At-loop Inv-loop μ-loop → tie.Start Inv-loop μ-loop
+entry c = c .before .before .before
+
+abbrev turn : tie.After-gate-at Inv-loop μ-loop → tie.At-loop Inv-loop μ-loop
+turn c = c .before .before .before
+
 gates-before-requires : tie.Need-gates-before-requires Inv-loop μ-loop
 gates-before-requires c κs = search needs
 
@@ -37,7 +44,7 @@ gate-at-requires c κs = omega arith
 
 step-requires : tie.Need-step-requires Inv-loop μ-loop
 step-requires c κs =
-    let a = c .before .before .before .before .before .before .args in
+    let a = entry (turn c) .args in
     rw (c .gate-at .ensures) (target-fits (a .lines) (a .gates .now) _ (search needs) (omega arith) (omega arith))
 
 add-taken : tie.Need-add-taken Inv-loop μ-loop
@@ -48,8 +55,8 @@ loop-less c = omega arith
 
 loop-again : tie.Need-loop-again Inv-loop μ-loop
 loop-again c =
-    let l = c .before .before .before .before in
-    let a = l .before .before .before .args in
+    let l = turn (c .before) in
+    let a = entry l .args in
     let end = l .before .gates-before .result in
     let i = end - (l .loop .taken + 1) in
     let next : end - l .loop .taken ≡ i + 1 = omega arith in
@@ -67,7 +74,7 @@ loop-again c =
 returns : tie.Need-returns Inv-loop μ-loop
 returns c =
     let l = c .before in
-    let a = l .before .before .before .args in
+    let a = entry l .args in
     let end = l .before .gates-before .result in
     let none : end - l .loop .taken ≡ 0 = omega arith in
     let whole : end ≡ a .level .0 = l .before .gates-before .ensures in

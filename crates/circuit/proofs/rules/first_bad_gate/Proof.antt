@@ -23,6 +23,13 @@ Inv-loop lines gates whole i₀ i = (whole ≡ length (gatesOf gates))
 abbrev μ-loop : tie.MeasureT-loop
 μ-loop lines gates whole i₀ i = whole - i
 
+-- places in the code, each from a later one
+abbrev entry : tie.At-loop Inv-loop μ-loop → tie.Start Inv-loop μ-loop
+entry c = c .before .before
+
+abbrev turn : tie.After-gate-at Inv-loop μ-loop → tie.At-loop Inv-loop μ-loop
+turn c = c .before .before .before
+
 loop-holds : tie.Need-loop-holds Inv-loop μ-loop
 unfolding firstBadGate
 loop-holds c = (sym (gates-count _), (search needs, refl))
@@ -44,8 +51,8 @@ add-result c = omega arith
 
 returns : tie.Need-returns Inv-loop μ-loop
 returns c =
-    let l = c .before .before .before .before .before in
-    let a = l .before .before .args in
+    let l = turn (c .before .before) in
+    let a = entry l .args in
     let e = sym (gate-entry (gatesOf (a .gates .now)) (l .loop .i) (c .before .before .before .gate .result .0) (search needs))
     ∙ sym (c .before .before .gate-at .ensures) in
     sym (l .loop .inv .1 .1 ∙ bad-found (badGate (a .lines)) _ (gatesOf (a .gates .now)) (l .loop .i) noGate (omega arith)
@@ -59,8 +66,8 @@ loop-less c = omega arith
 
 loop-again : tie.Need-loop-again Inv-loop μ-loop
 loop-again c =
-    let l = c .before .before .before .before .before in
-    let a = l .before .before .args in
+    let l = turn (c .before .before) in
+    let a = entry l .args in
     let e = sym (gate-entry (gatesOf (a .gates .now)) (l .loop .i) (c .before .before .before .gate .result .0) (search needs))
     ∙ sym (c .before .before .gate-at .ensures) in (
       l .loop .inv .0,
@@ -77,14 +84,14 @@ add-result-2 c = omega arith
 returns-2 : tie.Need-returns-2 Inv-loop μ-loop
 returns-2 c =
     let l = c .before .before in
-    let a = l .before .before .args in
+    let a = entry l .args in
     sym (l .loop .inv .1 .1 ∙ bad-end (badGate (a .lines)) (not (eqb (length (a .gates .now) % 3) 0)) (gatesOf (a .gates .now)) (l .loop .i)
     (omega arith) ∙ rw (eq-eqb (length (a .gates .now) % 3) 0 (c .if2 .taken)))
 
 returns-3 : tie.Need-returns-3 Inv-loop μ-loop
 returns-3 c =
     let l = c .before .before in
-    let a = l .before .before .args in
+    let a = entry l .args in
     let last : l .loop .i ≡ length (a .gates .now) / 3 = omega arith in
     sym (l .loop .inv .1 .1 ∙ bad-end (badGate (a .lines)) (not (eqb (length (a .gates .now) % 3) 0)) (gatesOf (a .gates .now)) (l .loop .i)
     (omega arith) ∙ rw (ne-eqb (length (a .gates .now) % 3) 0 (c .if2 .left), last))
