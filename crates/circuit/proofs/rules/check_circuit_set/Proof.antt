@@ -6,7 +6,7 @@ use Rattle.circuit.proofs.RuleLaws.{lines-right, counts-right, first-ba
 use Rattle.circuit.proofs.rules.check_circuit_set.Statement.{statement}
 use Rattle.circuit.proofs.rules.check_circuit_set.Tie as tie
 
--- places in the code, each from a later one
+-- the entry
 abbrev entry : tie.After-bad-lines → tie.Start
 entry c = c .before .before
 
