@@ -1,7 +1,7 @@
 -- More laws of lists: lists joined, the first entry that passes a test, and entries counted.
 use Prim.Native.Nat.{ℕ, zero, suc, _+_, _≤_, _<_}
 use mathlib.Core.Path.{_≡_, refl, sym, ap, _∙_}
-use mathlib.Core.Bool.{Bool, true, false, _||_}
+use mathlib.Core.Bool.{Bool, true, false}
 use mathlib.Core.List.{List, [], _∷_, _++_, List·Memᴰ, List·Memᴰ·head, List·Memᴰ·tail, nil≢cons}
 use native.Mathlib.Omega.{arith}
 use lib.ListN.{length, getD, drop}
@@ -18,10 +18,6 @@ pub all-members : {A : Type 0} (ys : List A) → All (λ a. List·Memᴰ a ys) y
 all-members [] = tt
 all-members (a ∷ ys) = (List·Memᴰ·head refl, all-map (λ b. List·Memᴰ·tail) ys (all-members ys))
 
-or-assoc : (a b c : Bool) → a || (b || c) ≡ (a || b) || c
-or-assoc true b c = refl
-or-assoc false b c = refl
-
 module _ {ℓ} {A : Type ℓ} where
   choice-append : (b : Bool) (a : A) (ys zs : List A) → choice b (a ∷ ys) ys ++ zs ≡ choice b (a ∷ (ys ++ zs)) (ys ++ zs)
   choice-append true a ys zs = refl
@@ -33,11 +29,6 @@ module _ {ℓ} {A : Type ℓ} where
   unfolding keep
   keep-append p [] zs = refl
   keep-append p (a ∷ ys) zs = ap (λ l. choice (p a) (a ∷ l) l) (keep-append p ys zs) ∙ sym (choice-append (p a) a (keep p ys) (keep p zs))
-
-  pub some-append : (p : A → Bool) (ys zs : List A) → some p (ys ++ zs) ≡ (some p ys || some p zs)
-  unfolding some
-  some-append p [] zs = refl
-  some-append p (a ∷ ys) zs = ap (λ b. p a || b) (some-append p ys zs) ∙ or-assoc (p a) (some p ys) (some p zs)
 
   -- ---- lists with the same entries
 

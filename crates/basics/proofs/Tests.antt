@@ -2,7 +2,7 @@
 use Prim.Native.Nat.{ℕ}
 use mathlib.Core.Path.{_≡_, refl, sym, ap, _∙_}
 use mathlib.Core.Logic.{_↔_, _≢_, by-cases}
-use mathlib.Core.Bool.{Bool, true, false, not, _&&_, _||_, false≢true}
+use mathlib.Core.Bool.{Bool, true, false, not, _&&_, _||_, false≢true, Bool·not-not}
 use native.Mathlib.Decide.{ℕ-discrete}
 use lib.Dec.{eqb}
 use borrow.Author.Tests.{eqb-true, eqb-false, eq-eqb, ne-eqb}
@@ -15,10 +15,6 @@ by-test false f g = g refl
 
 pub by-equal {κ} : {C : Type κ} (a b : ℕ) → (a ≡ b → C) → (a ≢ b → C) → C
 by-equal a b f g = by-cases (ℕ-discrete a b) f g
-
-pub not-not : (b : Bool) → not (not b) ≡ b
-not-not true = refl
-not-not false = refl
 
 -- two tests are equal when each passes if the other does
 pub bool-ext : {a b : Bool} → (a ≡ true → b ≡ true) → (b ≡ true → a ≡ true) → a ≡ b
@@ -34,7 +30,7 @@ pub choice-false {ℓ} : {A : Type ℓ} {b : Bool} → b ≡ false → (x y : A)
 choice-false e x y = ap (λ b. choice b x y) e
 
 pub not-eqb-iff : (a b : ℕ) → (not (eqb a b) ≡ true) ↔ (a ≢ b)
-not-eqb-iff a b = (λ e. eqb-false a b (sym (not-not (eqb a b)) ∙ ap not e), λ d. ap not (ne-eqb a b d))
+not-eqb-iff a b = (λ e. eqb-false a b (sym (Bool·not-not (eqb a b)) ∙ ap not e), λ d. ap not (ne-eqb a b d))
 
 -- two equality tests are equal when they ask the same
 pub eqb-ext : (a b c d : ℕ) → (a ≡ b → c ≡ d) → (c ≡ d → a ≡ b) → eqb a b ≡ eqb c d

@@ -1,5 +1,5 @@
 -- Laws of controls: which lines decide whether a gate fires, and where a gate with a control less or more does something else.
-use Prim.Native.Nat.{ℕ, _-_, _≤_, _<_}
+use Prim.Native.Nat.{ℕ, _≤_, _<_}
 use mathlib.Core.Path.{_≡_, refl, sym, ap, _∙_}
 use mathlib.Core.Logic.{_↔_, _≢_, by-cases}
 use mathlib.Core.Bool.{Bool, true, false, not, _&&_, Bool·beq, false≢true}

@@ -9,7 +9,6 @@ use lib.Seq.{set-at, getD-at, append-snoc}
 use Rattle.basics.specs.Choice.{choice, count}
 use Rattle.basics.specs.Lists.{keep}
 use Rattle.basics.proofs.Tests.{choice-true, choice-false}
-use Rattle.basics.proofs.Lists.{keep-le}
 use Rattle.circuit.specs.declared.Gate.{Gate}
 use Rattle.simulator.specs.Faulty.{caught}
 use Rattle.faults.specs.Rules.{isFault}
@@ -47,17 +46,6 @@ module _ (gs : List Gate) (x : ℕ) where
       (f ∷ uncaught gs x fs) (uncaught gs x fs)
   unfolding uncaught keep
   uncaught-on f fs stays e = ap (λ b. choice b (f ∷ uncaught gs x fs) (uncaught gs x fs)) e
-
-  pub uncaught-le : (fs : List Fault) → length (uncaught gs x fs) ≤ length fs
-  unfolding uncaught
-  uncaught-le fs = keep-le (λ f. not (caught gs f x)) fs
-
-  -- dropping keeps the number of records
-  pub dropped-length : (fs : List Fault) → length (dropped gs x fs) ≡ length fs
-  unfolding dropped
-  dropped-length fs =
-      let u : List Fault = uncaught gs x fs in
-      omega (arith, length-append u (replicate (length fs - length u) noFault), length-replicate (length fs - length u) noFault, uncaught-le fs)
 
   -- one turn, by what the calls in it give: the record's test, and the list where the record stays and where it is caught
   pub stays-is : (fs : List Fault) (ahead : ℕ) (f : Fault) (b : Bool) → f ≡ getD fs ahead noFault → b ≡ not (caught gs f x)

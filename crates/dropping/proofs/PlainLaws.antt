@@ -7,7 +7,7 @@ use native.Mathlib.Omega.{arith}
 use lib.ListN.{length, set, length-set}
 use Rattle.faults.specs.Records.{faultsOf}
 use Rattle.faults.specs.declared.Fault.{Fault}
-use Rattle.faults.proofs.RecordLaws.{records-count}
+use Rattle.faults.proofs.RecordLaws.{records-count, four}
 use Rattle.dropping.specs.Dropping.{wordsOf}
 
 pub faults-numbers : (fs : List Fault) → faultsOf (wordsOf fs) ≡ fs
@@ -32,10 +32,6 @@ numbers-faults (c ∷ p ∷ l ∷ v ∷ rest) e = ap (λ more. c ∷ p ∷ l ∷
 -- four numbers written
 abbrev putFour : List ℕ → ℕ → Fault → List ℕ
 putFour list i f = set (set (set (set list (4 * i) (f .class)) (4 * i + 1) (f .place)) (4 * i + 2) (f .line)) (4 * i + 3) (f .value)
-
--- four numbers on, by the list's own constructors
-four : (i k : ℕ) → 4 * suc i + k ≡ suc (suc (suc (suc (4 * i + k))))
-four i k = omega arith
 
 put-four : (list : List ℕ) (i : ℕ) (f : Fault) → i < length (faultsOf list) → faultsOf (putFour list i f) ≡ set (faultsOf list) i f
 unfolding faultsOf

@@ -15,6 +15,7 @@ use Rattle.refusals.specs.Checks.{fine, found}
 use Rattle.refusals.specs.Places.{inWord, firstBad}
 use Rattle.refusals.specs.declared.Checked.{Checked}
 use Rattle.refusals.specs.declared.Checked.the-variants.{Fine, Wrong}
+use Rattle.refusals.proofs.Clashes.{refused-answered}
 use Rattle.refusals.proofs.Tables.{refused-on, fine-on, refused-all, fine-all, after-refused, fine-row, fine-parts}
 use Rattle.refusals.proofs.Places.{none-bad, none-left}
 use Rattle.circuit.specs.Gates.{gatesOf}
@@ -34,7 +35,7 @@ use Rattle.dropping.specs.Answers.{isWrong, answerTo}
 
 bad-row : (bad : Bool) (k p : ℕ) → refused k p ≡ firstOf (refuse 9 at 1 when bad ∷ []) fine → true ≡ bad
 bad-row true k p e = refl
-bad-row false k p e = let z : _≡_ {A = ℕ} 0 1 = cc in absurd (omega arith)
+bad-row false k p e = refused-answered e
 
 module _ (n : ℕ) (words : List ℕ) (f : Fault) where
   bad-told : (k p : ℕ) → refused k p ≡ firstOf (faultRows n words f) fine → true ≡ badRecord n (gatesOf words) f

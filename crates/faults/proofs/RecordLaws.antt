@@ -23,7 +23,7 @@ records-count (c ∷ p ∷ l ∷ []) = refl
 records-count (c ∷ p ∷ l ∷ v ∷ rest) = let r = records-count rest in omega arith
 
 -- four words on, by the list's own constructors
-four : (i k : ℕ) → 4 * suc i + k ≡ suc (suc (suc (suc (4 * i + k))))
+pub four : (i k : ℕ) → 4 * suc i + k ≡ suc (suc (suc (suc (4 * i + k))))
 four i k = omega arith
 
 -- the record after i others has the four words from 4 * i

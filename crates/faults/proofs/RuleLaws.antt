@@ -2,13 +2,13 @@
 use Prim.Native.Nat.{ℕ, _/_, _%_, _≤_, _<_}
 use mathlib.Core.Path.{_≡_, sym, ap, _∙_}
 use mathlib.Core.Logic.{_≢_}
-use mathlib.Core.Bool.{Bool, true, false, not, true≢false}
+use mathlib.Core.Bool.{Bool, true, false, not, true≢false, Bool·not-not}
 use mathlib.Core.List.{List, [], _∷_}
 use native.Mathlib.Omega.{arith}
 use lib.ListN.{length}
 use lib.Dec.{eqb, ltb, leb}
 use borrow.Author.Tests.{ltb-true, leb-true, eqb-true, eq-eqb, ne-eqb, lt-ltb, le-ltb, le-leb, not-true, not-false}
-use Rattle.basics.proofs.Tests.{by-test, not-not, and-both, and-true, choice-true, choice-false}
+use Rattle.basics.proofs.Tests.{by-test, and-both, and-true, choice-true, choice-false}
 use Rattle.basics.proofs.All.{all-map}
 use Rattle.words.specs.Word.{bit}
 use Rattle.refusals.specs.Tables.{firstOf}
@@ -199,5 +199,5 @@ module _ (n : ℕ) (words list : List ℕ) where
           ne-eqb (length (faultsOf list)) 0 (λ q. d (sym number ∙ q)),
           le-ltb mostEntries (length (faultsOf list)) (omega arith),
           ← e,
-          not-not twice,
+          Bool·not-not twice,
         )

@@ -2,13 +2,13 @@
 use Prim.Native.Nat.{ℕ, _<_, _≤_}
 use mathlib.Core.Path.{_≡_, sym, ap}
 use mathlib.Core.Logic.{_≢_}
-use mathlib.Core.Bool.{true, false, not, _||_}
+use mathlib.Core.Bool.{true, false, not, _||_, Bool·not-not}
 use mathlib.Core.List.{List, [], _∷_}
 use native.Mathlib.Omega.{arith}
 use lib.ListN.{length}
 use lib.Dec.{eqb, ltb}
 use borrow.Author.Tests.{lt-ltb, le-ltb, eq-eqb, ne-eqb, ltb-false, eqb-true, eqb-false, not-false}
-use Rattle.basics.proofs.Tests.{or-neither, or-left, not-not}
+use Rattle.basics.proofs.Tests.{or-neither, or-left}
 use Rattle.refusals.specs.Tables.{firstOf}
 use Rattle.refusals.specs.Tables.Row.{refuse_at_when_}
 use Rattle.refusals.specs.Tables.Told.{refused}
@@ -18,7 +18,7 @@ use Rattle.circuit.specs.Limits.{mostLines, mostGates, mostVectors}
 use Rattle.circuit.specs.Rules.{badLines, badCounts}
 use Rattle.circuit.proofs.RuleLaws.{lines-right, counts-right}
 use Rattle.job.specs.Bytes.{numberAt}
-use Rattle.job.specs.Image.{headerLength, pastGates, pastVectors, longestJob, linesIn, classesIn, gatesIn, vectorsIn}
+use Rattle.job.specs.Image.{headerLength, pastGates, pastVectors, linesIn, classesIn, gatesIn, vectorsIn}
 use Rattle.job.specs.Rules.{badClasses, badSizes, headerRows}
 
 module _ (bytes : List ℕ) where
@@ -84,7 +84,7 @@ module _ (bytes : List ℕ) where
               → firstOf (refuse 6 at 0 when not (not (badSizes bytes)) ∷ []) fine ≡ firstOf (headerRows bytes) fine
           unfolding headerRows
           header-sizes e =
-              rw (le-ltb (length bytes) headerLength long, eq-eqb (numberAt 2 bytes 0) 1 form, lines, classes, e, not-not (badSizes bytes))
+              rw (le-ltb (length bytes) headerLength long, eq-eqb (numberAt 2 bytes 0) 1 form, lines, classes, e, Bool·not-not (badSizes bytes))
 
 -- ---- a header that breaks no rule
 
@@ -145,7 +145,3 @@ header-ok bytes e0 =
       end-at = same (numberAt 4 bytes 24) (pastVectors (gatesIn bytes) (vectorsIn bytes)) (s3 .0);
       whole = same (length bytes) (pastVectors (gatesIn bytes) (vectorsIn bytes)) (s3 .1);
     }
-
--- no job is longer than the longest
-pub job-most : (bytes : List ℕ) → HeaderOk bytes → length bytes ≤ longestJob
-job-most bytes h = omega arith

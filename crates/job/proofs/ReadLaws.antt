@@ -1,13 +1,13 @@
 -- Laws of reading: the table by its parts, and what a job that is read and breaks no rule is.
 use Prim.Native.Nat.{ℕ, _*_, _/_, _≤_}
 use mathlib.Core.Path.{_≡_, refl, sym, _∙_}
-use mathlib.Core.Bool.{Bool, not}
+use mathlib.Core.Bool.{Bool, not, Bool·not-not}
 use mathlib.Core.List.{List, [], _∷_, _++_}
 use native.Mathlib.Omega.{arith}
 use lib.ListN.{length}
 use lib.Dec.{eqb, ltb}
 use borrow.Author.Tests.{le-ltb, eq-eqb, ne-eqb, ltb-false}
-use Rattle.basics.proofs.Tests.{or-neither, not-not}
+use Rattle.basics.proofs.Tests.{or-neither}
 use Rattle.refusals.specs.Tables.{firstOf}
 use Rattle.refusals.specs.Tables.Row.{refuse_at_when_}
 use Rattle.refusals.specs.Tables.Told.{refused}
@@ -35,7 +35,7 @@ module _ (bytes : List ℕ) (words vectors : ℕ) where
       → found (sooner content room) ≡ firstOf (readRows bytes words vectors) fine
   unfolding readRows
   read-rest bad content room e f b g =
-      sooner-rows (contentRowsIn bytes) (roomRows bytes words vectors) content room f (rw (not-not bad, b) at g)
+      sooner-rows (contentRowsIn bytes) (roomRows bytes words vectors) content room f (rw (Bool·not-not bad, b) at g)
       ∙ sym (fine-on (headerRows bytes) (contentRowsIn bytes ++ roomRows bytes words vectors) fine e)
 
 -- a job that is read and breaks no rule

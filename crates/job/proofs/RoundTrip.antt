@@ -1,6 +1,6 @@
 -- Jobs and their images: a job that is written is read again as it was, an image that is read is written again as it was,
 -- and two jobs have two images.
-use Prim.Native.Nat.{ℕ, _+_, _*_, _≤_}
+use Prim.Native.Nat.{ℕ, _*_, _≤_}
 use mathlib.Core.Path.{_≡_, refl, sym, ap, ap₂, _∙_}
 use mathlib.Core.List.{List, [], _++_, append-assoc, append-nil}
 use borrow.Author.Needs.{needs}
@@ -12,8 +12,8 @@ use Rattle.refusals.specs.Tables.{firstOf}
 use Rattle.refusals.specs.Checks.{fine}
 use Rattle.circuit.specs.Rules.{firstBadGate, firstBadVector}
 use Rattle.circuit.proofs.WordLaws.{words-fit, words-whole, vectors-fit}
-use Rattle.job.specs.Bytes.{bytesOf, wordsAt}
-use Rattle.job.specs.Image.{headerLength, pastGates, header, rowBytes, gateCount, image}
+use Rattle.job.specs.Bytes.{bytesOf, numberAt, wordsAt}
+use Rattle.job.specs.Image.{headerLength, pastGates, pastVectors, header, rowBytes, gateCount, image}
 use Rattle.job.specs.Image.{linesIn, classesIn, gatesIn, vectorsIn, gateWords, vectorWords}
 use Rattle.job.specs.Rules.{readRows, writeRows}
 use Rattle.job.proofs.ImageLaws.{length-header, length-words-bytes, length-image, length-gate-words, length-vector-words}
@@ -33,6 +33,32 @@ pub record Holds (bytes : List ℕ) (n k : ℕ) (words xs : List ℕ) : Type 0 w
   pub gate-words : gateWords bytes ≡ words
   pub vector-words : vectorWords bytes ≡ xs
 
+-- the rows of the header of a job of n lines, classes k, d gates and m vectors, as some bytes hold them
+record Rows (bytes : List ℕ) (n k d m : ℕ) : Type 0 where
+  form : numberAt 2 bytes 0 ≡ 1
+  lines : numberAt 2 bytes 2 ≡ n
+  classes : numberAt 2 bytes 4 ≡ k
+  nothing : numberAt 2 bytes 6 ≡ 0
+  gates : numberAt 4 bytes 8 ≡ d
+  vectors : numberAt 4 bytes 12 ≡ m
+  gates-at : numberAt 4 bytes 16 ≡ headerLength
+  vectors-at : numberAt 4 bytes 20 ≡ pastGates d
+  end-at : numberAt 4 bytes 24 ≡ pastVectors d m
+
+rows-of : (bytes : List ℕ) (n k d m : ℕ) → All (Stands bytes) (header n k d m) → Rows bytes n k d m
+unfolding header
+rows-of bytes n k d m (form, (lines, (classes, (nothing, (gates, (vectors, (gates-at, (vectors-at, (end-at, end))))))))) = record {
+  form = form;
+  lines = lines;
+  classes = classes;
+  nothing = nothing;
+  gates = gates;
+  vectors = vectors;
+  gates-at = gates-at;
+  vectors-at = vectors-at;
+  end-at = end-at;
+}
+
 module _ (n k : ℕ) (words xs : List ℕ) (ok : JobOk n k words xs) where
   -- no word is left over
   gates-whole : 3 * gateCount words ≡ length words
@@ -44,17 +70,18 @@ module _ (n k : ℕ) (words xs : List ℕ) (ok : JobOk n k words xs) where
   placed = search needs
 
   -- every row of the header stands at its place
-  pub header-stands : All (Stands (image n k words xs)) (header n k (gateCount words) (length xs))
+  header-stands : Rows (image n k words xs) n k (gateCount words) (length xs)
   unfolding image
-  header-stands = rows-there (header n k (gateCount words) (length xs)) [] (each (bytesOf 4) words ++ each (bytesOf 4) xs) 0 refl placed
+  header-stands = rows-of (image n k words xs) n k (gateCount words) (length xs)
+      (rows-there (header n k (gateCount words) (length xs)) [] (each (bytesOf 4) words ++ each (bytesOf 4) xs) 0 refl placed)
 
   image-gates : gatesIn (image n k words xs) ≡ gateCount words
-  unfolding gatesIn header
-  image-gates = header-stands .1 .1 .1 .1 .0
+  unfolding gatesIn
+  image-gates = header-stands .gates
 
   image-vectors : vectorsIn (image n k words xs) ≡ length xs
-  unfolding vectorsIn header
-  image-vectors = header-stands .1 .1 .1 .1 .1 .0
+  unfolding vectorsIn
+  image-vectors = header-stands .vectors
 
   image-gate-words : gateWords (image n k words xs) ≡ words
   unfolding gateWords image
@@ -87,10 +114,10 @@ module _ (n k : ℕ) (words xs : List ℕ) (ok : JobOk n k words xs) where
       ∙ words-there (front ++ gs) xs [] (pastGates (gatesIn (image n k words xs))) at (vectors-fit n xs (ok .lines-fit) (ok .vectors-good))
 
   holds : Holds (image n k words xs) n k words xs
-  unfolding linesIn classesIn header
+  unfolding linesIn classesIn
   holds = record {
-    lines = header-stands .1 .0;
-    classes = header-stands .1 .1 .0;
+    lines = header-stands .lines;
+    classes = header-stands .classes;
     gates = image-gates;
     vectors = image-vectors;
     gate-words = image-gate-words;
@@ -98,7 +125,6 @@ module _ (n k : ℕ) (words xs : List ℕ) (ok : JobOk n k words xs) where
   }
 
   image-head : HeaderOk (image n k words xs)
-  unfolding header
   image-head =
       let h = holds in
       let l = length-image n k words xs in
@@ -106,17 +132,17 @@ module _ (n k : ℕ) (words xs : List ℕ) (ok : JobOk n k words xs) where
       let s = header-stands in
       record {
         long = omega arith;
-        form = s .0;
+        form = s .form;
         some-lines = omega arith;
         lines-fit = omega arith;
         some-classes = omega arith;
         classes-fit = omega arith;
-        nothing = s .1 .1 .1 .0;
+        nothing = s .nothing;
         gates-fit = omega arith;
         vectors-fit = omega arith;
-        gates-at = s .1 .1 .1 .1 .1 .1 .0;
-        vectors-at = s .1 .1 .1 .1 .1 .1 .1 .0 ∙ omega arith;
-        end-at = s .1 .1 .1 .1 .1 .1 .1 .1 .0 ∙ omega arith;
+        gates-at = s .gates-at;
+        vectors-at = s .vectors-at ∙ omega arith;
+        end-at = s .end-at ∙ omega arith;
         whole = omega arith;
       }
 

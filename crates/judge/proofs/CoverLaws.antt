@@ -5,7 +5,7 @@ use mathlib.Core.Logic.{_≢_}
 use mathlib.Core.Bool.{true, false, false≢true}
 use mathlib.Core.List.{List, [], _∷_}
 use native.Mathlib.Omega.{arith}
-use lib.ListN.{length, replicate, length-replicate}
+use lib.ListN.{length, length-replicate}
 use borrow.Author.Tests.{eq-eqb, ne-eqb}
 use Rattle.basics.proofs.Tests.{by-equal, choice-true, choice-false}
 use Rattle.circuit.specs.Limits.{mostGates, levels}
@@ -55,17 +55,14 @@ pub record Sized (c : Coverage) : Type 0 where
   pub controls : length (c .«missing_controls») ≡ mostGates
   pub extras : length (c .«extra_controls») ≡ mostGates
 
-zeros-length : (k : ℕ) → length (replicate {A = ℕ} k 0) ≡ k
-zeros-length k = length-replicate {A = ℕ} k 0
-
 pub empty-sized : Sized emptyCoverage
 unfolding emptyCoverage
 empty-sized = record {
-  stuck-0 = zeros-length levels;
-  stuck-1 = zeros-length levels;
-  gates = zeros-length mostGates;
-  controls = zeros-length mostGates;
-  extras = zeros-length mostGates;
+  stuck-0 = length-replicate {A = ℕ} levels 0;
+  stuck-1 = length-replicate {A = ℕ} levels 0;
+  gates = length-replicate {A = ℕ} mostGates 0;
+  controls = length-replicate {A = ℕ} mostGates 0;
+  extras = length-replicate {A = ℕ} mostGates 0;
 }
 
 pub sized-more : (c : Coverage) (n : ℕ) (gs : List Gate) (x : ℕ) → Sized c → Sized (withVector c n gs x)

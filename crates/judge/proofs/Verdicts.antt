@@ -1,16 +1,14 @@
 -- Laws of verdicts: what is caught and what is not, of any list of faults and any vectors.
-use Prim.Native.Nat.{ℕ, _+_}
-use mathlib.Core.Path.{_≡_, refl, sym, ap, _∙_, subst}
+use Prim.Native.Nat.{ℕ}
+use mathlib.Core.Path.{_≡_, ap}
 use mathlib.Core.Logic.{_↔_}
-use mathlib.Core.Bool.{true, false, not, _||_}
-use mathlib.Core.List.{List, [], _∷_, _++_, List·Memᴰ, List·Memᴰ·head, Memᴰ·append-right}
-use lib.ListN.{length}
-use borrow.Author.Tests.{not-true, not-false}
+use mathlib.Core.Bool.{true, not}
+use mathlib.Core.List.{List, [], List·Memᴰ}
+use borrow.Author.Tests.{not-false}
 use Rattle.basics.specs.Lists.{All}
-use Rattle.basics.proofs.Tests.{or-left}
 use Rattle.basics.proofs.All.{all-map}
-use Rattle.basics.proofs.Lists.{keep-parts, keep-cong, keep-none, none-kept, some-entry, entry-some}
-use Rattle.basics.proofs.ListMore.{some-append, some-same, first-kept}
+use Rattle.basics.proofs.Lists.{keep-cong, keep-none, none-kept, some-entry, entry-some}
+use Rattle.basics.proofs.ListMore.{some-same}
 use Rattle.circuit.specs.declared.Gate.{Gate}
 use Rattle.simulator.specs.Faulty.{caught}
 use Rattle.faults.specs.declared.Fault.{Fault}
@@ -31,14 +29,6 @@ module _ (gs : List Gate) (xs : List ℕ) (f : Fault) where
   unfolding caughtBySome
   catches-some x m e = entry-some (caught gs f) m e
 
-  -- more vectors catch no less
-  pub caught-joined : (ys : List ℕ) → caughtBySome gs (xs ++ ys) f ≡ (caughtBySome gs xs f || caughtBySome gs ys f)
-  unfolding caughtBySome
-  caught-joined ys = some-append (caught gs f) xs ys
-
-  pub caught-more : (ys : List ℕ) → caughtBySome gs xs f ≡ true → caughtBySome gs (xs ++ ys) f ≡ true
-  caught-more ys e = caught-joined ys ∙ or-left (caughtBySome gs ys f) e
-
   -- order and repeats change nothing
   pub caught-same : (ys : List ℕ) → SameVectors xs ys → caughtBySome gs xs f ≡ caughtBySome gs ys f
   unfolding caughtBySome
@@ -54,24 +44,6 @@ module _ (gs : List Gate) (xs : List ℕ) (fs : List Fault) where
     λ e. all-map (λ f h. some-catches gs xs f (not-false (caughtBySome gs xs f) h)) fs (none-kept (λ f. not (caughtBySome gs xs f)) fs e),
     λ w. keep-none (λ f. not (caughtBySome gs xs f)) fs (all-map (λ f h. ap not (catches-some gs xs f (h .0) (h .1) (h .2))) fs w),
   )
-
-  -- the first uncaught fault: one of the list, which no vector catches, and every fault before it is caught
-  pub first-uncaught : (f : Fault) (rest : List Fault) → uncaughtOf gs xs fs ≡ f ∷ rest
-      → List·Memᴰ f fs × (caughtBySome gs xs f ≡ false)
-      × ((before : List Fault) × (after : List Fault) × (fs ≡ before ++ (f ∷ after)) × All (λ h. caughtBySome gs xs h ≡ true) before)
-  unfolding uncaughtOf
-  first-uncaught f rest e =
-      let r = first-kept (λ h. not (caughtBySome gs xs h)) fs f rest e in
-      let member = subst (List·Memᴰ f) (sym (r .parts)) (Memᴰ·append-right (r .before) (List·Memᴰ·head refl)) in (
-        member,
-        not-true (caughtBySome gs xs f) (r .passes),
-        (r .before, r .after, r .parts, all-map (λ h. not-false (caughtBySome gs xs h)) (r .before) (r .failed)),
-      )
-
-  -- what is caught and what is not are all
-  pub verdict-parts : length (caughtOf gs xs fs) + length (uncaughtOf gs xs fs) ≡ length fs
-  unfolding caughtOf uncaughtOf
-  verdict-parts = keep-parts (caughtBySome gs xs) fs
 
   pub caught-of-same : (ys : List ℕ) → SameVectors xs ys → caughtOf gs xs fs ≡ caughtOf gs ys fs
   unfolding caughtOf

@@ -9,8 +9,6 @@ use Rattle.refusals.specs.Checks.{fine}
 use Rattle.refusals.specs.declared.Refusal.{Refusal}
 use Rattle.judge.specs.declared.Verdict.{Verdict}
 use Rattle.judge.specs.declared.Verdict.the-variants.{Complete, Left, Refused}
-use Rattle.marking.specs.declared.First.{First}
-use Rattle.marking.specs.declared.First.the-variants as first
 
 -- a verdict: the number caught, the number in the class, and 1 for complete or 0 and the first uncaught fault
 abbrev pub toldVerdict : Verdict → Told

@@ -1,7 +1,6 @@
 // A set's marks for one class, on arrays of its own, and the verdict on them.
 ghost use mathlib.Core.Path.{_≡_};
-ghost use Prim.Native.Nat.{_^_, _<_, _≤_};
-ghost use Rattle.basics.specs.Lists.{All};
+ghost use Prim.Native.Nat.{_≤_};
 ghost use Rattle.circuit.specs.Gates.{gatesOf};
 ghost use Rattle.circuit.specs.Sound.{Sound};
 ghost use Rattle.marking.specs.Marks.{markAll, levelMarks, gateMarks};
@@ -79,7 +78,7 @@ fn judge_gates(class: u32, lines: u32, gates: &[u32], vectors: &[u32]) -> Verdic
 // The verdict on a set for a class.
 pub fn judge_class(lines: u32, gates: &[u32], vectors: &[u32], class: u32) -> Verdict
     requires { ⌜ Sound lines (now gates) ⌝ }
-    requires { ⌜ (1 ≤ class) × ((class ≤ 4) × All (λ x. x < 2 ^ lines) (now vectors)) ⌝ }
+    requires { ⌜ (1 ≤ class) × (class ≤ 4) ⌝ }
     ensures { λ r. ⌜ toldVerdict r ≡ setVerdict lines (gatesOf (now (gates .entry))) (now (vectors .entry)) class ⌝ }
 {
     if class == 1 {

@@ -12,12 +12,14 @@ use borrow.Author.Tests.{eq-eqb, ne-eqb}
 use Rattle.basics.specs.Lists.{upFrom, keep, each}
 use Rattle.basics.proofs.Tests.{by-test}
 use Rattle.refusals.specs.Tables.Told.{answered}
+use Rattle.refusals.proofs.Clashes.{refused-answered}
 use Rattle.circuit.specs.declared.Gate.{Gate}
 use Rattle.faults.specs.declared.Fault.{Fault}
 use Rattle.faults.specs.Classes.{classFaults}
 use Rattle.judge.specs.Judging.{caughtBySome, caughtOf, uncaughtOf, verdict}
 use Rattle.marking.specs.Firsts.{firstTold}
 use Rattle.judge.specs.Answers.{toldVerdict}
+use Rattle.judge.proofs.AnswerLaws.{shown-complete}
 use Rattle.judge.specs.declared.Verdict.{Verdict}
 use Rattle.judge.specs.declared.Verdict.the-variants.{Complete, Left, Refused}
 use Rattle.job.specs.Wanted.{isWanted, wanted}
@@ -120,13 +122,13 @@ of-told class a b [] (Complete c d) e =
     let p : c ≡ a = cc in
     let q : d ≡ b = cc in
     rw (p, q) (sym (text-ok class a b))
-of-told class a b (f ∷ rest) (Complete c d) e = let z : _≡_ {A = ℕ} 0 1 = cc in absurd (omega arith)
-of-told class a b [] (Left c d h) e = let z : _≡_ {A = ℕ} 0 1 = cc in absurd (omega arith)
+of-told class a b (f ∷ rest) (Complete c d) e = shown-complete (sym e)
+of-told class a b [] (Left c d h) e = shown-complete e
 of-told class a b (f ∷ rest) (Left c d h) e =
     let p : c ≡ a = cc in
     let q : d ≡ b = cc in
     rw (p, q, shown-same class h f (cc) (cc) (cc)) (sym (text-left class a b f rest))
-of-told class a b rest (Refused r) e = let z : _≡_ {A = ℕ} 0 1 = cc in absurd (omega arith)
+of-told class a b rest (Refused r) e = refused-answered e
 
 pub verdict-text : (n : ℕ) (gs : List Gate) (xs : List ℕ) (class : ℕ) (v : Verdict)
     → toldVerdict v ≡ verdict (caughtBySome gs xs) (classFaults n gs class) → verdictText class v ≡ classText n gs xs class

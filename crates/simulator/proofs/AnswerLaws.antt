@@ -1,8 +1,6 @@
 -- Different answers tell different things.
-use Prim.Native.Nat.{ℕ}
 use mathlib.Core.Path.{_≡_, refl, ap}
-use native.Mathlib.Omega.{arith}
-use Rattle.refusals.proofs.Clashes.{answered-refused, refused-answered}
+use Rattle.refusals.proofs.Clashes.{answered-refused, refused-answered, one-zero, zero-one}
 use Rattle.refusals.proofs.Tables.{told-refusal}
 use Rattle.simulator.specs.Answers.{toldOutput, toldCaught, toldMade}
 use Rattle.simulator.specs.declared.Output.{Output}
@@ -20,9 +18,9 @@ told-output-one (output.Refused p) (output.Refused q) e = ap output.Refused (tol
 
 pub told-caught-one : (r s : Caught) → toldCaught r ≡ toldCaught s → r ≡ s
 told-caught-one caught.Yes caught.Yes e = refl
-told-caught-one caught.Yes caught.No e = let z : _≡_ {A = ℕ} 0 1 = cc in absurd (omega arith)
+told-caught-one caught.Yes caught.No e = one-zero e
 told-caught-one caught.Yes (caught.Refused q) e = answered-refused e
-told-caught-one caught.No caught.Yes e = let z : _≡_ {A = ℕ} 0 1 = cc in absurd (omega arith)
+told-caught-one caught.No caught.Yes e = zero-one e
 told-caught-one caught.No caught.No e = refl
 told-caught-one caught.No (caught.Refused q) e = answered-refused e
 told-caught-one (caught.Refused p) caught.Yes e = refused-answered e

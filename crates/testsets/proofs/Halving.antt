@@ -25,7 +25,7 @@ use Rattle.faults.specs.declared.Fault.{Fault}
 use Rattle.simulator.proofs.FaultyLaws.{stuck-caught}
 use Rattle.judge.specs.Judging.{uncaughtOf}
 use Rattle.testsets.specs.Sets.{score, bestOf, best}
-use Rattle.testsets.proofs.TotalLaws.{total, total-is-sum, sum-of-counts, total-cong, total-add, total-const, total-flip, total-forward}
+use Rattle.testsets.proofs.TotalLaws.{total, total-cong, total-add, total-const, total-flip, total-forward}
 use Rattle.testsets.proofs.TotalLaws.{some-above}
 use Rattle.testsets.proofs.SetLaws.{score-cons, score-uncaught}
 
@@ -58,12 +58,6 @@ half-catch n gs ok f k =
     (total-cong n (λ x. ap count (stuck-caught n gs ok f k x))
     ∙ total-forward n gs ok (f .place) (λ s. count (not (eqb (bit s (f .line)) (f .value)))))
     ∙ half-differ n (f .line) (f .value) (k .line-in) (k .value-in)
-
--- the same, counted: of the 2 ^ n vectors exactly half catch it
-pub half-of-inputs : (n : ℕ) (gs : List Gate) → AllOk n gs → (f : Fault) → StuckOk n (length gs) f
-    → length (keep (caught gs f) (upFrom 0 (2 ^ n))) * 2 ≡ 2 ^ n
-half-of-inputs n gs ok f k =
-    ap (λ t. t * 2) (sym (total-is-sum n (λ x. count (caught gs f x)) ∙ sum-of-counts (caught gs f) 0 (2 ^ n))) ∙ half-catch n gs ok f k
 
 -- ---- many faults
 

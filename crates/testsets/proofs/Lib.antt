@@ -10,5 +10,4 @@ pub mod Multiple
 pub mod BackwardLaws
 pub mod RuleLaws
 pub mod AnswerLaws
-pub mod Demand3
 pub mod PickLaws

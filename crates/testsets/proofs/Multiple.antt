@@ -15,7 +15,6 @@ use Rattle.basics.specs.Choice.{choice}
 use Rattle.basics.specs.Lists.{some, All}
 use Rattle.basics.proofs.Tests.{choice-true, not-eqb-iff, by-equal, and-true, or-neither}
 use Rattle.basics.proofs.All.{all-map, all-drop}
-use Rattle.basics.proofs.Lists.{all-entry}
 use Rattle.basics.proofs.Kept.{none-some}
 use Rattle.words.specs.Word.{bit, force}
 use Rattle.words.proofs.Lines.{bit-force-same, bit-force-other}
@@ -28,9 +27,6 @@ use Rattle.faults.specs.Multiple.{sameSite, siteTwice}
 use Rattle.faults.specs.Entries.{StuckOk}
 use Rattle.faults.specs.declared.Fault.{Fault}
 use Rattle.simulator.proofs.FaultyLaws.{arrive, stuck-from, stuck-caught}
-use Rattle.testsets.specs.Sets.{Complete}
-use Rattle.faults.proofs.SiteCount.{AtSite}
-use Rattle.testsets.proofs.SetLaws.{complete-catches}
 
 -- ---- no site is named twice
 
@@ -101,13 +97,3 @@ deepest-caught n gs ok fs m mem apart deep k x c = not-eqb-iff (stuckRun fs 0 gs
     (sym (stuck-from fs 0 p p gs x (zero-add p) (k .place-in) deep) ∙ e ∙ run-from-level gs p x) in
     not-eqb-iff (bit (forward gs p x) (m .line)) (m .value) .0 (sym (stuck-caught n gs ok m k x) ∙ c)
     (ap (λ s. bit s (m .line)) (sym same) ∙ force-hits m fs t mem apart (k .value-in)))
-
--- so a set that is complete for single stuck-at faults catches every multiple one whose entries are at sites
-pub multiple-caught : (n : ℕ) (gs : List Gate) → AllOk n gs → (xs : List ℕ) → Complete n gs xs
-    → (fs : List Fault) → 1 ≤ length fs → All (StuckOk n (length gs)) fs → All (AtSite n gs) fs → siteTwice fs ≡ false
-    → (x : ℕ) × List·Memᴰ x xs × (caughtTogether gs fs x ≡ true)
-multiple-caught n gs ok xs e fs few valid at once =
-    let r = deepest fs few in
-    let k : StuckOk n (length gs) (r .0) = all-entry (StuckOk n (length gs)) (r .1) valid in
-    let c = complete-catches n gs xs e (r .0) k (all-entry (AtSite n gs) (r .1) at) in
-    (c .0, c .1, deepest-caught n gs ok fs (r .0) (r .1) (sites-distinct fs once) (r .2) k (c .0) (c .2))

@@ -2,7 +2,7 @@
 use Prim.Native.Nat.{ℕ, zero, suc, _+_, _*_, _^_, _≤_, _<_, zero-le, suc-le-suc}
 use mathlib.Core.Path.{_≡_, refl, ap}
 use mathlib.Core.List.{List, [], _∷_}
-use native.Mathlib.Nat.{mul-zero, le-of-eq, le-of-suc-le-suc, lt-of-le-of-lt}
+use native.Mathlib.Nat.{mul-zero, le-of-eq, lt-of-le-of-lt}
 use native.Mathlib.Omega.{arith}
 use lib.ListN.{length}
 use Rattle.basics.specs.Lists.{All}
@@ -15,7 +15,7 @@ use Rattle.judge.specs.Judging.{uncaughtOf}
 use Rattle.testsets.specs.Log2.{log2}
 use Rattle.testsets.specs.Sets.{Complete, best, picks, bound, compactSet}
 use Rattle.faults.specs.Sites.{siteCount}
-use Rattle.testsets.proofs.Log2Laws.{log2-lt, log2-le}
+use Rattle.testsets.proofs.Log2Laws.{log2-lt}
 use Rattle.testsets.proofs.TotalLaws.{pow-double}
 use Rattle.testsets.proofs.SetLaws.{stuck-ok, uncaught-cons, uncaught-nil, uncaught-le, all-uncaught}
 use Rattle.faults.proofs.SiteCount.{stuck-sites}
@@ -57,22 +57,6 @@ picks-few n gs ok (suc k) (suc m) (f ∷ fs) w h =
     suc-le-suc (picks-few n gs ok k m rest (all-uncaught (StuckOk n (length gs)) gs (b ∷ []) (f ∷ fs) w)
     (omega (arith, half-uncaught n gs ok (f ∷ fs) w)))
 
--- then further picks add nothing
-pub picks-enough : (n : ℕ) (gs : List Gate) → AllOk n gs → (m k : ℕ) (fs : List Fault) → All (StuckOk n (length gs)) fs
-    → length fs < 2 ^ m → m ≤ k → picks k n gs fs ≡ picks m n gs fs
-unfolding picks
-picks-enough n gs ok zero zero fs w h l = refl
-picks-enough n gs ok zero (suc k) [] w h l = refl
-picks-enough n gs ok zero (suc k) (f ∷ fs) w h l = absurd (omega arith)
-picks-enough n gs ok (suc m) zero fs w h l = absurd (omega arith)
-picks-enough n gs ok (suc m) (suc k) [] w h l = refl
-picks-enough n gs ok (suc m) (suc k) (f ∷ fs) w h l =
-    let b : ℕ = best n gs (f ∷ fs) in
-    let rest : List Fault = uncaughtOf gs (b ∷ []) (f ∷ fs) in
-    ap (λ xs. b ∷ xs)
-    (picks-enough n gs ok m k rest (all-uncaught (StuckOk n (length gs)) gs (b ∷ []) (f ∷ fs) w) (omega (arith, half-uncaught n gs ok (f ∷ fs) w))
-    (le-of-suc-le-suc l))
-
 -- every pick is an input
 pub picks-lt : (n : ℕ) (gs : List Gate) (k : ℕ) (fs : List Fault) → All (λ x. x < 2 ^ n) (picks k n gs fs)
 unfolding picks
@@ -90,16 +74,6 @@ bound-above n gs =
     let p : 2 ^ (2 + log2 S) ≡ 2 ^ suc (suc (log2 S)) = ap (λ e. 2 ^ e) (omega arith) in
     omega (arith, log2-lt S)
 
-bound-below : (n : ℕ) (gs : List Gate) → 1 ≤ siteCount n gs → 2 ^ bound n gs ≤ 4 * siteCount n gs
-unfolding bound
-bound-below n gs h =
-    let S : ℕ = siteCount n gs in
-    let p : 2 ^ (2 + log2 S) ≡ 2 ^ suc (suc (log2 S)) = ap (λ e. 2 ^ e) (omega arith) in
-    omega (arith, log2-le S h)
-
-pub bound-power : (n : ℕ) (gs : List Gate) → 1 ≤ siteCount n gs → (2 * siteCount n gs < 2 ^ bound n gs) × (2 ^ bound n gs ≤ 4 * siteCount n gs)
-bound-power n gs h = (bound-above n gs, bound-below n gs h)
-
 -- there are fewer stuck-at faults than that power
 pub few-faults : (n : ℕ) (gs : List Gate) → length (stuckFaults n gs) < 2 ^ bound n gs
 few-faults n gs = rw (stuck-sites n gs) (bound-above n gs)
@@ -116,8 +90,3 @@ compact-few n gs ok = picks-few n gs ok (bound n gs) (bound n gs) (stuckFaults n
 pub compact-lt : (n : ℕ) (gs : List Gate) → All (λ x. x < 2 ^ n) (compactSet n gs)
 unfolding compactSet
 compact-lt n gs = picks-lt n gs (bound n gs) (stuckFaults n gs)
-
--- any more picks make the same set
-pub compact-any : (n : ℕ) (gs : List Gate) → AllOk n gs → (k : ℕ) → bound n gs ≤ k → picks k n gs (stuckFaults n gs) ≡ compactSet n gs
-unfolding compactSet
-compact-any n gs ok k l = picks-enough n gs ok (bound n gs) k (stuckFaults n gs) (stuck-ok n gs) (few-faults n gs) l

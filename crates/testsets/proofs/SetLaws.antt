@@ -1,30 +1,25 @@
 -- Laws of fault lists and sets: the stuck-at faults of a circuit, what a set leaves uncaught of a list, when a set is complete.
 use Prim.Native.Nat.{ℕ, _+_, _≤_}
-use mathlib.Core.Path.{_≡_, refl, sym, ap, ap₂, _∙_, subst}
+use mathlib.Core.Path.{_≡_, refl, sym, ap, _∙_}
 use mathlib.Core.Logic.{_↔_}
-use mathlib.Core.Bool.{Bool, true, false, not, _&&_, _||_, or-false}
-use mathlib.Core.List.{List, [], _∷_, List·Memᴰ}
-use native.Mathlib.Omega.{arith}
+use mathlib.Core.Bool.{Bool, true, false, not, _&&_, _||_, or-false, Bool·not-not}
+use mathlib.Core.List.{List, [], _∷_}
 use lib.ListN.{length}
 use Rattle.basics.specs.Choice.{count}
 use Rattle.basics.specs.Lists.{keep, some, All}
-use Rattle.basics.proofs.Tests.{not-not}
-use Rattle.basics.proofs.Lists.{length-keep, keep-parts, keep-le, keep-cong, keep-keep, all-keep, keep-none, none-kept, some-entry}
+use Rattle.basics.proofs.Lists.{length-keep, keep-parts, keep-le, keep-cong, keep-keep, all-keep, keep-none, none-kept}
 use Rattle.words.specs.Word.{bit}
-use Rattle.refusals.specs.Tables.Told.{answered}
 use Rattle.circuit.specs.declared.Gate.{Gate}
 use Rattle.faults.specs.Sites.{sites}
 use Rattle.simulator.specs.Faulty.{caught}
 use Rattle.faults.specs.Entries.{StuckOk}
 use Rattle.faults.specs.declared.Fault.{Fault}
-use Rattle.faults.specs.Classes.{faultOf, stuckFaults, classFaults}
-use Rattle.judge.specs.Judging.{caughtBySome, uncaughtOf, verdict, setVerdict}
-use Rattle.marking.specs.Firsts.{firstTold}
+use Rattle.faults.specs.Classes.{faultOf, stuckFaults}
+use Rattle.judge.specs.Judging.{caughtBySome, uncaughtOf}
 use Rattle.marking.proofs.MarkLaws.{stuck-of}
 use Rattle.testsets.specs.Sets.{Complete, score}
 use Rattle.faults.proofs.ClassParts.{all-stuck, stuck-all}
-use Rattle.faults.proofs.ClassLists.{same-fault}
-use Rattle.faults.proofs.SiteCount.{AtSite, site-below}
+use Rattle.faults.proofs.SiteCount.{site-below}
 
 -- ---- all stuck-at faults of a circuit
 
@@ -77,27 +72,9 @@ pub complete-iff : (n : ℕ) (gs : List Gate) (xs : List ℕ)
 unfolding uncaughtOf
 complete-iff n gs xs = (
   λ e i j v hi o hv.
-      sym (not-not (caughtBySome gs xs (faultOf 1 i j v)))
+      sym (Bool·not-not (caughtBySome gs xs (faultOf 1 i j v)))
       ∙ ap not (stuck-all (λ f. not (caughtBySome gs xs f) ≡ false) n gs
       (none-kept (λ f. not (caughtBySome gs xs f)) (stuckFaults n gs) e) i j v hi o hv),
   λ h. keep-none (λ f. not (caughtBySome gs xs f)) (stuckFaults n gs)
       (all-stuck (λ f. not (caughtBySome gs xs f) ≡ false) n gs (λ i j v hi o hv. ap not (h i j v hi o hv))),
 )
-
--- some vector of a complete set catches it, where it is at a site
-pub complete-catches : (n : ℕ) (gs : List Gate) (xs : List ℕ) → Complete n gs xs → (f : Fault) → StuckOk n (length gs) f → AtSite n gs f
-    → (x : ℕ) × List·Memᴰ x xs × (caught gs f x ≡ true)
-unfolding caughtBySome
-complete-catches n gs xs e f k o =
-    some-entry (caught gs f) xs
-    (subst (λ h. some (caught gs h) xs ≡ true) (sym (same-fault f (k .class-is) refl refl))
-    (complete-iff n gs xs .0 e (f .place) (f .line) (f .value) (k .place-in) o (k .value-in)))
-
--- the judge's verdict on a complete set: all are caught, and none is the first uncaught
-pub complete-verdict : (n : ℕ) (gs : List Gate) (xs : List ℕ) → Complete n gs xs
-    → setVerdict n gs xs 1 ≡ answered (length (stuckFaults n gs) ∷ length (stuckFaults n gs) ∷ 1 ∷ 0 ∷ 0 ∷ 0 ∷ 0 ∷ [])
-unfolding verdict classFaults uncaughtOf
-complete-verdict n gs xs e =
-    let all : length (keep (caughtBySome gs xs) (stuckFaults n gs)) ≡ length (stuckFaults n gs) =
-    omega (arith, keep-parts (caughtBySome gs xs) (stuckFaults n gs), ap length e) in
-    ap₂ (λ m l. answered (m ∷ length (stuckFaults n gs) ∷ firstTold l)) all e

@@ -2,20 +2,14 @@
 use Prim.Native.Nat.{ℕ, zero, suc, _+_, _*_, _^_, _≤_, _<_}
 use mathlib.Core.Path.{_≡_, refl, sym, ap, ap₂, _∙_, fun-ext}
 use mathlib.Core.Logic.{by-cases}
-use mathlib.Core.Bool.{Bool}
 use mathlib.Core.List.{List, [], _∷_}
-use native.Mathlib.Nat.{add-zero, add-comm, pow-suc, le-of-suc-le-suc, not-suc-le-zero, add-assoc, suc-mul, one-mul, mul-assoc, two-mul, zero-lt-suc}
+use native.Mathlib.Nat.{add-comm, pow-suc, le-of-suc-le-suc, not-suc-le-zero, one-mul, mul-assoc, two-mul, zero-lt-suc}
 use native.Mathlib.Decide.{decLe}
-use native.Mathlib.Numerals.{add-one, add-two}
 use native.Mathlib.Omega.{arith}
-use lib.ListN.{length, take}
+use lib.ListN.{take}
 use lib.Dec.{lit<}
-use Rattle.basics.specs.Choice.{count}
-use Rattle.basics.specs.Lists.{upFrom, keep}
-use Rattle.basics.specs.Sums.{sumFrom}
 use Rattle.basics.proofs.Tests.{by-test}
 use Rattle.basics.proofs.All.{all-take}
-use Rattle.basics.proofs.Lists.{length-keep}
 use Rattle.words.specs.Word.{flip}
 use Rattle.words.proofs.Lines.{flip-flip}
 use Rattle.words.proofs.Halves.{flip-even, flip-odd, flip-upper, flip-upper-even}
@@ -29,28 +23,6 @@ use Rattle.circuit.proofs.StepLaws.{step-on, step-off}
 unfoldable pub total : ℕ → (ℕ → ℕ) → ℕ
 total zero F = F 0
 total (suc n) F = total n (λ x. F (x * 2) + F (x * 2 + 1))
-
--- the numbers from 2a on, two by two
-sum-pairs : (F : ℕ → ℕ) (a k : ℕ) → sumFrom F (a * 2) (k * 2) ≡ sumFrom (λ x. F (x * 2) + F (x * 2 + 1)) a k
-unfolding sumFrom
-sum-pairs F a zero = refl
-sum-pairs F a (suc k) =
-    ap (λ m. sumFrom F (a * 2) m) (suc-mul k 2 ∙ add-two (k * 2))
-    ∙ ap₂ (λ b c. F (a * 2) + (F b + sumFrom F c (k * 2))) (sym (add-one (a * 2))) (sym (suc-mul a 2 ∙ add-two (a * 2)))
-    ∙ sym (add-assoc (F (a * 2)) (F (a * 2 + 1)) (sumFrom F (suc a * 2) (k * 2)))
-    ∙ ap (λ r. F (a * 2) + F (a * 2 + 1) + r) (sum-pairs F (suc a) k)
-
--- it is the sum over 0, 1, .., 2 ^ n - 1
-pub total-is-sum : (n : ℕ) (F : ℕ → ℕ) → total n F ≡ sumFrom F 0 (2 ^ n)
-unfolding total sumFrom
-total-is-sum zero F = sym (add-zero (F 0))
-total-is-sum (suc n) F = total-is-sum n (λ x. F (x * 2) + F (x * 2 + 1)) ∙ sym (sum-pairs F 0 (2 ^ n)) ∙ ap (λ m. sumFrom F 0 m) (sym (pow-suc 2 n))
-
--- a test that is counted over numbers that count up passes for as many as it keeps
-pub sum-of-counts : (p : ℕ → Bool) (a k : ℕ) → sumFrom (λ x. count (p x)) a k ≡ length (keep p (upFrom a k))
-unfolding sumFrom upFrom keep
-sum-of-counts p a zero = refl
-sum-of-counts p a (suc k) = ap (λ m. count (p a) + m) (sum-of-counts p (suc a) k) ∙ sym (length-keep p a (upFrom (suc a) k))
 
 -- ---- laws of sums
 

@@ -2,7 +2,7 @@
 use Prim.Native.Nat.{ℕ, zero, suc, _+_, _^_, _≤_, _<_, zero-le}
 use mathlib.Core.Path.{_≡_, refl, sym, ap, _∙_}
 use mathlib.Core.Logic.{_≢_}
-use mathlib.Core.Bool.{Bool, true, false, not, _&&_, _||_}
+use mathlib.Core.Bool.{Bool, false, not, _&&_, _||_, and-or-distrib-left}
 use mathlib.Core.List.{List, [], _∷_}
 use native.Mathlib.Nat.{lt-of-le-of-lt}
 use lib.Pow.{pow-pos}
@@ -114,10 +114,6 @@ unfolding linesOn
 lines-lacking n mask s =
     keep-cong (on-lacking mask s) (upFrom 0 n) ∙ sym (keep-keep (λ j. eqb (bit mask j) 1) (λ j. not (eqb (bit s j) 1)) (upFrom 0 n))
 
-both-or : (m a b : Bool) → (m && a) || (m && b) ≡ m && (a || b)
-both-or true a b = refl
-both-or false a b = refl
-
 -- lacking in one of two words
 pub on-lacking-or : (mask s t j : ℕ)
     → eqb (bit (bitOr (lacking mask s) (lacking mask t)) j) 1 ≡ (eqb (bit mask j) 1 && (not (eqb (bit s j) 1) || not (eqb (bit t j) 1)))
@@ -125,7 +121,7 @@ on-lacking-or mask s t j =
     on-or (lacking mask s) (lacking mask t) j
     ∙ ap (λ b. b || eqb (bit (lacking mask t) j) 1) (on-lacking mask s j)
     ∙ ap (λ b. (eqb (bit mask j) 1 && not (eqb (bit s j) 1)) || b) (on-lacking mask t j)
-    ∙ both-or (eqb (bit mask j) 1) (not (eqb (bit s j) 1)) (not (eqb (bit t j) 1))
+    ∙ sym (and-or-distrib-left (eqb (bit mask j) 1) (not (eqb (bit s j) 1)) (not (eqb (bit t j) 1)))
 
 pub lines-lacking-or : (n mask s t : ℕ)
     → linesOn n (bitOr (lacking mask s) (lacking mask t)) ≡ keep (λ j. not (eqb (bit s j) 1) || not (eqb (bit t j) 1)) (linesOn n mask)

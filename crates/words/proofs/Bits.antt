@@ -3,7 +3,7 @@ use Prim.Native.Nat.{ℕ, zero, suc, _+_, _-_, _*_, _/_, _%_, _^_, _≤_, _<_}
 use mathlib.Core.Path.{_≡_, refl, sym, ap, ap₂, _∙_}
 use mathlib.Core.Logic.{_≢_}
 use native.Mathlib.Nat.{div-one, div-self, div-eq-of-lt, zero-div, mod-lt, div-add-mod', zero-lt-suc, lt-of-lt-of-le, le-add-right, le-add-left}
-use native.Mathlib.Numerals.{one-add}
+use native.Mathlib.Numerals.{one-add, add-one}
 use native.Mathlib.Omega.{arith}
 use lib.Arith.{lt-one}
 use lib.Pow.{pow-pos, pow-mono, shr-shr}
@@ -67,6 +67,10 @@ word-ext-all a b h =
 pub bit-one-line : (j : ℕ) → bit (2 ^ j) j ≡ 1
 unfolding bit
 bit-one-line j = ap (λ x. x % 2) (div-self (pow-pos j))
+
+-- what stands above a lines, halved, is what stands above one more
+pub half-on : (w a : ℕ) → w / 2 ^ a / 2 ≡ w / 2 ^ suc a
+half-on w a = shr-shr w a 1 ∙ rw (add-one a)
 
 pow-half : (j : ℕ) → 2 ^ suc j / 2 ≡ 2 ^ j
 pow-half j = omega arith

@@ -8,10 +8,11 @@ use mathlib.Core.List.{List, _∷_}
 use lib.ListN.{length}
 use lib.Dec.{eqb}
 use lib.Count.{ones, ones-step}
-use lib.Pow.{shr-shr, mod-mod-pow, field}
+use lib.Pow.{mod-mod-pow, field}
 use Rattle.basics.specs.Choice.{choice}
 use Rattle.basics.specs.Lists.{upFrom, keep}
 use Rattle.words.specs.Word.{bit, linesOn}
+use Rattle.words.proofs.Bits.{half-on}
 
 one-more : (b j : ℕ) (l : List ℕ) → b < 2 → length (choice (eqb b 1) (j ∷ l) l) ≡ b + length l
 one-more zero j l h = omega arith
@@ -25,9 +26,6 @@ ones-none = refl
 -- the lowest of k + 1 digits, and the rest
 ones-low : (x k : ℕ) → ones (x % 2 ^ suc k) ≡ x % 2 + ones (x / 2 % 2 ^ k)
 ones-low x k = rw (← add-one k, ones-step (x % 2 ^ (k + 1)), mod-mod-pow x k 1, field x k 1)
-
-half-on : (w a : ℕ) → w / 2 ^ a / 2 ≡ w / 2 ^ suc a
-half-on w a = shr-shr w a 1 ∙ rw (add-one a)
 
 -- the lines from a on, of them k, are the k digits above the a lowest
 on-digits : (w a k : ℕ) → length (keep (λ j. eqb (bit w j) 1) (upFrom a k)) ≡ ones (w / 2 ^ a % 2 ^ k)

@@ -2,9 +2,7 @@
 use Prim.Native.Nat.{ℕ, _-_, _^_, _<_}
 use mathlib.Core.Path.{_≡_, refl, ap, _∙_}
 use mathlib.Core.Bool.{not}
-use native.Mathlib.Nat.{mod-eq-of-lt}
-use native.Mathlib.Omega.{arith}
-use lib.Bits.{bitXor, xor-lt, xor-add-and, xor-zero-l, and-mask}
+use lib.Bits.{bitXor, xor-lt, xor-zero-l}
 use lib.Dec.{eqb}
 use Rattle.words.specs.Word.{bit, allOnes}
 use Rattle.words.specs.Inverse.{inverse}
@@ -29,11 +27,6 @@ not-on s j = by-bit s j (λ e. rw e) (λ e. rw e)
 pub inverse-lt : (n s : ℕ) → s < 2 ^ n → inverse n s < 2 ^ n
 unfolding inverse
 inverse-lt n s h = xor-lt n s (allOnes n) h (all-ones-lt n)
-
--- of a word of n lines it is what the word lacks to all ones
-pub inverse-is-rest : (n s : ℕ) → s < 2 ^ n → inverse n s ≡ allOnes n - s
-unfolding inverse allOnes
-inverse-is-rest n s h = omega (arith, xor-add-and s (2 ^ n - 1), and-mask s n, mod-eq-of-lt h)
 
 -- all lines 0, inverted, are all lines 1
 pub inverse-of-zero : (n : ℕ) → inverse n 0 ≡ allOnes n

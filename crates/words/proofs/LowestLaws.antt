@@ -3,15 +3,14 @@ use Prim.Native.Nat.{ℕ, zero, suc, _+_, _/_, _%_, _^_, _<_}
 use mathlib.Core.Path.{_≡_, sym, _∙_}
 use mathlib.Core.Logic.{_≢_}
 use native.Mathlib.Nat.{div-one, add-zero}
-use native.Mathlib.Numerals.{add-one}
 use native.Mathlib.Omega.{arith}
 use lib.Count.{trailingZeros}
 use lib.Dec.{eqb}
 use lib.ListN.{getD}
-use lib.Pow.{shr-shr}
 use Rattle.basics.specs.Lists.{upFrom, keep}
 use Rattle.basics.proofs.Tests.{by-equal}
 use Rattle.words.specs.Word.{bit, linesOn}
+use Rattle.words.proofs.Bits.{half-on}
 
 odd : (m : ℕ) → m % 2 ≢ 0 → m % 2 ≡ 1
 odd m d = omega arith
@@ -23,9 +22,6 @@ trailing-lt zero m h d = absurd (d (omega arith))
 trailing-lt (suc k) m h d = by-equal (m % 2) 0
     (λ e. rw e (let r = trailing-lt k (m / 2) (omega arith) (λ z. d (omega arith)) in omega arith))
     (λ o. rw (odd m o) (omega arith))
-
-half-on : (w a : ℕ) → w / 2 ^ a / 2 ≡ w / 2 ^ suc a
-half-on w a = shr-shr w a 1 ∙ rw (add-one a)
 
 first-on : (w a k : ℕ) → trailingZeros k (w / 2 ^ a) < k → getD (keep (λ j. eqb (bit w j) 1) (upFrom a k)) 0 0 ≡ a + trailingZeros k (w / 2 ^ a)
 unfolding keep upFrom bit trailingZeros

@@ -1,7 +1,7 @@
 -- Laws of words that are split by a state: the lines of one that are 1 in it, and the lines of another that are 0.
 use Prim.Native.Nat.{ℕ, _+_, _^_, _≤_, _<_}
 use mathlib.Core.Path.{_≡_, refl, sym, ap, ap₂, _∙_}
-use mathlib.Core.Bool.{Bool, true, false, _&&_, _||_}
+use mathlib.Core.Bool.{Bool, true, false, _&&_, _||_, and-comm}
 use native.Mathlib.Nat.{lt-of-le-of-lt}
 use native.Mathlib.Omega.{arith}
 use lib.Bits.{bitAnd, bitOr, or-lt, and-le-l}
@@ -54,19 +54,13 @@ apart false b s j = refl
 apart true false s j = by-bit s j (λ e. rw e) (λ e. rw e)
 apart true true s j = by-bit s j (λ e. rw e) (λ e. rw e)
 
-and-swap : (a b : Bool) → a && b ≡ b && a
-and-swap true true = refl
-and-swap true false = refl
-and-swap false true = refl
-and-swap false false = refl
-
 split-line : (n s a b j : ℕ) → j < n
     → ((eqb (bit a j) 1 && eqb (bit s j) 1) || (eqb (bit b j) 1 && eqb (bit s j) 0)) ≡ eqb (bit (bitOr (bitAnd s a) (bitAnd (inverse n s) b)) j) 1
 split-line n s a b j h = sym (
     on-or (bitAnd s a) (bitAnd (inverse n s) b) j
     ∙ ap₂ _||_
-    (on-and s a j ∙ and-swap (eqb (bit s j) 1) (eqb (bit a j) 1))
-    (on-and (inverse n s) b j ∙ ap (λ t. t && eqb (bit b j) 1) (on-inverse n s j h) ∙ and-swap (eqb (bit s j) 0) (eqb (bit b j) 1)))
+    (on-and s a j ∙ and-comm (eqb (bit s j) 1) (eqb (bit a j) 1))
+    (on-and (inverse n s) b j ∙ ap (λ t. t && eqb (bit b j) 1) (on-inverse n s j h) ∙ and-comm (eqb (bit s j) 0) (eqb (bit b j) 1)))
 
 -- of two words on the lines of w: the lines of a that are 1 in s and those of b that are 0 there are the lines of one word
 pub split-count : (n w s a b : ℕ) → ((j : ℕ) → bit a j ≡ 1 → bit w j ≡ 1) → ((j : ℕ) → bit b j ≡ 1 → bit w j ≡ 1)

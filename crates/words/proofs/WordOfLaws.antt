@@ -8,14 +8,13 @@ use native.Mathlib.Nat.{zero-lt-suc, lt-of-lt-of-le}
 use native.Mathlib.Omega.{arith}
 use lib.Pow.{pow-mono, pow-pos}
 use lib.Dec.{eqb}
-use borrow.Author.Tests.{eq-eqb, ne-eqb}
+use borrow.Author.Tests.{ne-eqb}
 use Rattle.basics.specs.Choice.{choice, count}
 use Rattle.basics.specs.Lists.{upFrom, keep}
 use Rattle.basics.proofs.Kept.{keep-upFrom-cong}
-use Rattle.words.specs.Word.{bit, allOnes, linesOn}
+use Rattle.words.specs.Word.{bit, linesOn}
 use Rattle.words.specs.WordOf.{wordOf}
 use Rattle.words.proofs.Bits.{by-bit, bit-lowest, bit-half, bit-of-zero, bit-above, word-ext}
-use Rattle.words.proofs.Masks.{bit-all-ones, all-ones-lt}
 
 -- the lowest line, and the half above it
 low-line : (b : Bool) (w : ℕ) → (count b + 2 * w) % 2 ≡ count b
@@ -74,14 +73,6 @@ none-is n p h = word-is n 0 p (pow-pos n) (λ j l. ne-eqb (bit 0 j) 1 (λ o. ome
 
 pub wordOf-none : (n : ℕ) (p : ℕ → Bool) → ((j : ℕ) → j < n → p j ≡ false) → wordOf n p ≡ 0
 wordOf-none n p h = sym (none-is n p h)
-
-pub wordOf-all : (n : ℕ) (p : ℕ → Bool) → ((j : ℕ) → j < n → p j ≡ true) → wordOf n p ≡ allOnes n
-wordOf-all n p h = sym (word-is n (allOnes n) p (all-ones-lt n) (λ j l. eq-eqb (bit (allOnes n) j) 1 (bit-all-ones n j l) ∙ sym (h j l)))
-
--- one test for all lines
-pub wordOf-same : (n : ℕ) (b : Bool) → wordOf n (λ j. b) ≡ choice b (allOnes n) 0
-wordOf-same n true = wordOf-all n (λ j. true) (λ j l. refl)
-wordOf-same n false = wordOf-none n (λ j. false) (λ j l. refl)
 
 -- and one besides each line's own
 pub wordOf-when : (n : ℕ) (p : ℕ → Bool) (b : Bool) → wordOf n (λ j. p j && b) ≡ choice b (wordOf n p) 0

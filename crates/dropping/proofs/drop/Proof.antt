@@ -11,6 +11,22 @@ use borrow.Author.Needs.{needs}
 use Rattle.dropping.proofs.drop.Statement.{statement}
 use Rattle.dropping.proofs.drop.Tie as tie
 
+-- places in the code, each from a later one
+abbrev lent : tie.After-check-drop → tie.After-shared-slice-known
+lent c = c .before .before .before
+
+abbrev entry : tie.After-check-drop → tie.Start
+entry c = lent c .before
+
+abbrev refusing : tie.After-known-told → tie.After-check-drop
+refusing c = c .before .before .before
+
+abbrev passing : tie.After-enum-told → tie.After-check-drop
+passing c = c .before .before
+
+abbrev moving : tie.After-in-word → tie.After-uncaught-to-front
+moving c = c .before .before .before
+
 check-drop-requires : tie.Need-check-drop-requires
 check-drop-requires c κs = search needs
 
@@ -22,9 +38,10 @@ enum-told c = search needs
 
 uncaught-to-front-requires : tie.Need-uncaught-to-front-requires
 uncaught-to-front-requires c κs =
-    let a = c .before .before .before .before .before .before .before .args in
+    let told = c .before in
+    let a = entry (passing told) .args in
     let ok = drop-ok (a .lines) (a .gates .now) (a .vector) (a .list .now)
-    (ap found (sym (c .before .enum-told .given .1)) ∙ c .before .before .before .check-drop .ensures) in
+    (ap found (sym (told .enum-told .given .1)) ∙ passing told .check-drop .ensures) in
     (ok .vector .circuit, ok .records)
 
 in-word-requires : tie.Need-in-word-requires
@@ -35,9 +52,9 @@ same-length c = search needs
 
 returns : tie.Need-returns
 returns c =
-    let a = c .before .before .before .before .before .before .before .args in
+    let a = entry (refusing c) .args in
     let rows = dropRows (a .lines) (a .gates .now) (a .vector) (a .list .now) in
-    let broken = ap found (sym (c .before .refusal .given .1)) ∙ c .before .before .before .check-drop .ensures in
+    let broken = ap found (sym (c .before .refusal .given .1)) ∙ refusing c .check-drop .ensures in
     (refused-all rows _ _ _ broken, after-refused rows _ _ _ _ broken)
 
 same-length-2 : tie.Need-same-length-2
@@ -45,11 +62,11 @@ same-length-2 c = search needs
 
 returns-2 : tie.Need-returns-2
 returns-2 c =
-    let a = c .before .before .before .before .before .before .before .before .before .before .before .args in
+    let told = moving c .before .before in
+    let a = entry (passing told) .args in
     let rows = dropRows (a .lines) (a .gates .now) (a .vector) (a .list .now) in
-    let passed = ap found (sym (c .before .before .before .before .before .enum-told .given .1)) ∙ c .before .before .before .before
-    .before .before .before .check-drop .ensures in
-    let left = c .before .before .before .uncaught-to-front .ensures in (
+    let passed = ap found (sym (told .enum-told .given .1)) ∙ passing told .check-drop .ensures in
+    let left = moving c .uncaught-to-front .ensures in (
       ap (λ number. answered (number ∷ [])) (c .in-word .ensures ∙ ap inWord (left .0)) ∙ fine-all rows _ passed,
       left .1 ∙ after-fine rows _ _ passed,
     )

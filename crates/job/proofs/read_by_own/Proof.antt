@@ -11,15 +11,24 @@ use borrow.Author.Needs.{needs}
 use Rattle.job.proofs.read_by_own.Statement.{statement}
 use Rattle.job.proofs.read_by_own.Tie as tie
 
--- the entry and its table, the place where the rules have been checked, and that where none is broken
+-- the places where own arrays and what is lent are known, the entry and its table, and where the rules have been checked
+abbrev lent-own : tie.After-check-read → tie.After-slice-known4
+lent-own c = c .before .before .before
+
+abbrev lent : tie.After-slice-known4 → tie.After-slice-known
+lent c = c .before .before .before
+
 abbrev entry : tie.After-check-read → tie.Start
-entry c = c .before .before .before .before .before .before .before .before
+entry c = lent (lent-own c) .before .before
 
 abbrev rows : tie.Start → List Row
 rows c = readRows (c .args .bytes .now) (length (c .args .gates .now)) (length (c .args .vectors .now))
 
+abbrev given-back : tie.After-slice-known6 → tie.After-own-gates
+given-back c = c .before .before .before
+
 abbrev checked : tie.After-slice-known6 → tie.After-check-read
-checked c = c .before .before .before .before
+checked c = given-back c .before
 
 passed : (c : tie.After-enum-told) → fine ≡ firstOf (rows (entry (checked (c .before .before)))) fine
 passed c = ap found (sym (c .enum-told .given .1)) ∙ checked (c .before .before) .check-read .ensures

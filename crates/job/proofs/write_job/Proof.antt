@@ -13,8 +13,11 @@ use Rattle.job.proofs.write_job.Statement.{statement}
 use Rattle.job.proofs.write_job.Tie as tie
 
 -- the entry and its table, and the place where no rule is broken
+abbrev lent : tie.After-check-write → tie.After-shared-slice-known
+lent c = c .before .before .before
+
 abbrev entry : tie.After-check-write → tie.Start
-entry c = c .before .before .before .before
+entry c = lent c .before
 
 abbrev rows : tie.Start → List Row
 rows c = writeRows (c .args .lines) (c .args .classes) (c .args .gates .now) (c .args .vectors .now) (length (c .args .out .now))

@@ -26,8 +26,9 @@ returns c = search needs
 
 text-of-requires : tie.Need-text-of-requires
 text-of-requires c κs =
-    let read = c .before .before .before .before .before .before .read-input .ensures in
-    rw (c .before .before .before .length .given .1) at read
+    let told = c .before .before .before in
+    let read = told .before .before .before .read-input .ensures in
+    rw (told .length .given .1) at read
 
 array-share-prefix-text : tie.Need-array-share-prefix-text
 array-share-prefix-text c = search needs

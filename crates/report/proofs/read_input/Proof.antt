@@ -2,7 +2,6 @@
 -- is left, and a read that puts nothing ends the loop. Assumes nothing.
 use Prim.Native.Nat.{_≤_, _-_}
 use mathlib.Core.Path.{_≡_}
-use native.Mathlib.Omega.{arith}
 use lib.ListN.{length}
 use borrow.Author.Needs.{needs}
 use Rattle.report.proofs.read_input.Statement.{statement}

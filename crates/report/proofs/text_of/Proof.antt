@@ -12,6 +12,19 @@ use Rattle.report.proofs.TextLaws.{told-number, never-refused, front-of
 use Rattle.report.proofs.text_of.Statement.{statement}
 use Rattle.report.proofs.text_of.Tie as tie
 
+-- places in the code, each from a later one
+abbrev lent : tie.After-report → tie.After-whole
+lent c = c .before .before .before
+
+abbrev entry : tie.After-report → tie.Start
+entry c = lent c .before
+
+abbrev answering : tie.After-known-told → tie.After-report
+answering c = c .before .before .before
+
+abbrev refusing : tie.After-enum-told → tie.After-report
+refusing c = c .before .before
+
 slice-aggregate-report : tie.Need-slice-aggregate-report
 slice-aggregate-report c = let a = c .before .before .args in sym (length-take-le (a .length) (a .job .now) (omega (arith, c .before .before .pre)))
 
@@ -27,8 +40,8 @@ cast-result c = search needs
 returns : tie.Need-returns
 unfolding reportRows
 returns c =
-    let a = c .before .before .before .before .before .before .before .args in
-    let report = c .before .before .before .report in
+    let a = entry (answering c) .args in
+    let report = answering c .report in
     let told = report .ensures .0 in
     let held = report .ensures .1 in
     let bytes = take (a .length) (a .job .now) in
@@ -43,8 +56,8 @@ enum-told c = search needs
 returns-2 : tie.Need-returns-2
 unfolding reportRows
 returns-2 c =
-    let a = c .before .before .before .before .before .before .args in
-    let report = c .before .before .report in
+    let a = entry (refusing c) .args in
+    let report = refusing c .report in
     let told = report .ensures .0 in
     let bytes = take (a .length) (a .job .now) in
     let fits = le-ltb (length (a .text .now)) (length (reportText bytes)) (omega (arith, report-fits bytes)) in

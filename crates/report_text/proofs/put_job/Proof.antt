@@ -14,8 +14,11 @@ use Rattle.report_text.proofs.put_job.Statement.{statement}
 use Rattle.report_text.proofs.put_job.Tie as tie
 
 -- the entry, and the two parts of the text
+abbrev lent : tie.After-numbers → tie.After-shared-slice-known
+lent c = c .before .before .before
+
 abbrev entry : tie.After-numbers → tie.Start
-entry c = c .before .before .before .before
+entry c = lent c .before
 
 abbrev front : tie.Start → List ℕ
 front c = jobLine (c .args .lines) (c .args .gates .now) (c .args .vectors .now)

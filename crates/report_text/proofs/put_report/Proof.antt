@@ -13,11 +13,20 @@ use Rattle.report_text.proofs.put_report.Statement.{statement}
 use Rattle.report_text.proofs.put_report.Tie as tie
 
 -- the entry, and the place where the job has been read
+abbrev lent : tie.After-read-job → tie.After-shared-slice-known
+lent c = c .before .before .before
+
 abbrev entry : tie.After-read-job → tie.Start
-entry c = c .before .before .before .before
+entry c = lent c .before
+
+abbrev reading : tie.After-vectors2 → tie.After-read-job
+reading c = c .before .before
 
 abbrev asked : tie.After-lines → tie.After-read-job
-asked c = c .before .before .before .before
+asked c = reading (c .before .before)
+
+abbrev counts : tie.After-gates3 → tie.After-lines
+counts c = c .before .before .before
 
 -- the numbers of gates and vectors that were told
 abbrev gates : tie.After-lines → ℕ
@@ -73,26 +82,26 @@ array-share-prefix-gates : tie.Need-array-share-prefix-gates
 array-share-prefix-gates c = fits (c .before .before) .0
 
 slice-aggregate-put-job : tie.Need-slice-aggregate-put-job
-slice-aggregate-put-job c = sym (length-take-le _ _ (fits (c .before .before .before) .0))
+slice-aggregate-put-job c = sym (length-take-le _ _ (fits (counts c) .0))
 
 array-share-prefix-vectors : tie.Need-array-share-prefix-vectors
-array-share-prefix-vectors c = fits (c .before .before .before) .1
+array-share-prefix-vectors c = fits (counts c) .1
 
 slice-aggregate-put-job-2 : tie.Need-slice-aggregate-put-job-2
-slice-aggregate-put-job-2 c = sym (length-take-le _ _ (fits (c .before .before .before .before) .1))
+slice-aggregate-put-job-2 c = sym (length-take-le _ _ (fits (counts (c .before)) .1))
 
 put-job-requires : tie.Need-put-job-requires
-put-job-requires c κs = job-sound _ _ _ _ _ _ _ (read (c .before .before .before .before))
+put-job-requires c κs = job-sound _ _ _ _ _ _ _ (read (counts (c .before)))
 
 returns : tie.Need-returns
 returns c =
     let told = c .before .before .before in
-    let r = told .before .before .before .before .read-job in
+    let r = reading (told .before .before) .read-job in
     text-as _ _ _ (report-refused _ _ _ _ _ _ (omega arith) (omega arith) (ap toldRead (sym (told .refusal .given .1)) ∙ r .ensures .0))
     (c .put-refused .ensures)
 
 returns-2 : tie.Need-returns-2
-returns-2 c = text-as _ _ _ (job-text _ _ _ _ _ _ _ (read (c .before .before .before .before .before))) (c .put-job .ensures)
+returns-2 c = text-as _ _ _ (job-text _ _ _ _ _ _ _ (read (counts (c .before .before)))) (c .put-job .ensures)
 
 pub put-report-spec : {M : Type 1} → statement M
 put-report-spec =

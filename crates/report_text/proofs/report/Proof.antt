@@ -11,8 +11,11 @@ use Rattle.report_text.proofs.report.Statement.{statement}
 use Rattle.report_text.proofs.report.Tie as tie
 
 -- the entry, and the place where the text has been made
+abbrev lent : tie.After-put-report → tie.After-shared-slice-known
+lent c = c .before .before .before
+
 abbrev entry : tie.After-put-report → tie.Start
-entry c = c .before .before .before .before
+entry c = lent c .before
 
 abbrev made : tie.After-text2 → tie.After-put-report
 made c = c .before .before .before

@@ -8,6 +8,16 @@ use borrow.Author.Needs.{needs}
 use Rattle.simulator.proofs.faulty_run.Statement.{statement}
 use Rattle.simulator.proofs.faulty_run.Tie as tie
 
+-- places in the code, each from a later one
+abbrev entry : tie.After-check-catch → tie.Start
+entry c = c .before .before
+
+abbrev refusing : tie.After-known-told → tie.After-check-catch
+refusing c = c .before .before .before
+
+abbrev passing : tie.After-enum-told → tie.After-check-catch
+passing c = c .before .before
+
 check-catch-requires : tie.Need-check-catch-requires
 check-catch-requires c κs = search needs
 
@@ -19,21 +29,22 @@ enum-told c = search needs
 
 faulty-run-requires : tie.Need-faulty-run-requires
 faulty-run-requires c κs =
-    let a = c .before .before .before .before .args in
+    let a = entry (passing c) .args in
     let ok = catch-ok (a .lines) (a .gates .now) (a .vector) (a .fault)
-    (ap found (sym (c .enum-told .given .1)) ∙ c .before .before .check-catch .ensures) in
+    (ap found (sym (c .enum-told .given .1)) ∙ passing c .check-catch .ensures) in
     (ok .vector .circuit, ok .fault)
 
 returns : tie.Need-returns
 returns c =
-    let a = c .before .before .before .before .before .args in
+    let a = entry (refusing c) .args in
     refused-all (catchRows (a .lines) (a .gates .now) (a .vector) (a .fault)) _ _ _
-    (ap found (sym (c .before .refusal .given .1)) ∙ c .before .before .before .check-catch .ensures)
+    (ap found (sym (c .before .refusal .given .1)) ∙ refusing c .check-catch .ensures)
 
 returns-2 : tie.Need-returns-2
 returns-2 c =
-    let a = c .before .before .before .before .before .args in
-    let passed = ap found (sym (c .before .enum-told .given .1)) ∙ c .before .before .before .check-catch .ensures in
+    let told = c .before in
+    let a = entry (passing told) .args in
+    let passed = ap found (sym (told .enum-told .given .1)) ∙ passing told .check-catch .ensures in
     rw (c .faulty-run .ensures) (fine-all (catchRows (a .lines) (a .gates .now) (a .vector) (a .fault)) _ passed)
 
 pub faulty-run-spec : {M : Type 1} → statement M

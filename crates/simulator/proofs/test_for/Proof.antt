@@ -8,6 +8,16 @@ use borrow.Author.Needs.{needs}
 use Rattle.simulator.proofs.test_for.Statement.{statement}
 use Rattle.simulator.proofs.test_for.Tie as tie
 
+-- places in the code, each from a later one
+abbrev entry : tie.After-check-test → tie.Start
+entry c = c .before .before
+
+abbrev refusing : tie.After-known-told → tie.After-check-test
+refusing c = c .before .before .before
+
+abbrev passing : tie.After-enum-told → tie.After-check-test
+passing c = c .before .before
+
 check-test-requires : tie.Need-check-test-requires
 check-test-requires c κs = search needs
 
@@ -19,20 +29,21 @@ enum-told c = search needs
 
 test-for-requires : tie.Need-test-for-requires
 test-for-requires c κs =
-    let a = c .before .before .before .before .args in
-    let ok = test-ok (a .lines) (a .gates .now) (a .fault) (ap found (sym (c .enum-told .given .1)) ∙ c .before .before .check-test .ensures) in
+    let a = entry (passing c) .args in
+    let ok = test-ok (a .lines) (a .gates .now) (a .fault) (ap found (sym (c .enum-told .given .1)) ∙ passing c .check-test .ensures) in
     (ok .circuit, ok .fault)
 
 returns : tie.Need-returns
 returns c =
-    let a = c .before .before .before .before .before .args in
+    let a = entry (refusing c) .args in
     refused-all (testRows (a .lines) (a .gates .now) (a .fault)) _ _ _
-    (ap found (sym (c .before .refusal .given .1)) ∙ c .before .before .before .check-test .ensures)
+    (ap found (sym (c .before .refusal .given .1)) ∙ refusing c .check-test .ensures)
 
 returns-2 : tie.Need-returns-2
 returns-2 c =
-    let a = c .before .before .before .before .before .args in
-    let passed = ap found (sym (c .before .enum-told .given .1)) ∙ c .before .before .before .check-test .ensures in
+    let told = c .before in
+    let a = entry (passing told) .args in
+    let passed = ap found (sym (told .enum-told .given .1)) ∙ passing told .check-test .ensures in
     rw (c .test-for .ensures) (fine-all (testRows (a .lines) (a .gates .now) (a .fault)) _ passed)
 
 pub test-for-spec : {M : Type 1} → statement M

@@ -22,6 +22,11 @@ at t = and 1 put-decimal-kinds.ps (is 1 put-decimal-kinds.ps μ-put-decimal t) p
 abbrev below : ℕ → In 1 put-decimal-kinds.ps
 below t = and 1 put-decimal-kinds.ps (falls 1 put-decimal-kinds.ps _<_ μ-put-decimal t) put-decimal.Pre
 
+-- the entry, from the call
+abbrev entry : (t : ℕ) → put-decimal-lts.After-put-decimal-arg (below t, put-decimal.Post) (at t) put-decimal.Post
+    → put-decimal-lts.Start (below t, put-decimal.Post) (at t) put-decimal.Post
+entry t c = c .before .before .before
+
 cast-out : (t : ℕ) → put-decimal-lts.Need-cast-out (below t, put-decimal.Post) (at t) put-decimal.Post
 cast-out t c = omega arith
 
@@ -45,7 +50,7 @@ returns t c = put-small _ _ _ (omega arith)
 
 put-decimal-requires : (t : ℕ) → put-decimal-lts.Need-put-decimal-requires (below t, put-decimal.Post) (at t) put-decimal.Post
 put-decimal-requires t c κs =
-    let a = c .before .before .before in
+    let a = entry t c in
     let w = room-more (a .args .x) (omega arith) (omega arith) in
     (omega arith, omega arith)
 
@@ -57,13 +62,13 @@ add-out-2 t c = omega arith
 
 slice-write-out-2 : (t : ℕ) → put-decimal-lts.Need-slice-write-out-2 (below t, put-decimal.Post) (at t) put-decimal.Post
 slice-write-out-2 t c =
-    let a = c .before .before .before .before .before .before in
+    let a = entry t (c .before .before .before) in
     let w = room-more (a .args .x) (omega arith) (omega arith) in
     omega arith
 
 add-result-2 : (t : ℕ) → put-decimal-lts.Need-add-result-2 (below t, put-decimal.Post) (at t) put-decimal.Post
 add-result-2 t c =
-    let a = c .before .before .before .before .before .before in
+    let a = entry t (c .before .before .before) in
     let w = room-more (a .args .x) (omega arith) (omega arith) in
     omega arith
 

@@ -10,7 +10,7 @@ use Rattle.text.proofs.put_bytes.Tie as tie
 
 abbrev Inv-loop : tie.InvT-loop
 Inv-loop out₀ at bytes i₀ out i = (i ≤ length bytes)
-    × ((length out ≡ length out₀) × (sets out (at + i) (drop i bytes) ≡ sets out₀ at bytes))
+    × (length out ≡ length out₀) × (sets out (at + i) (drop i bytes) ≡ sets out₀ at bytes)
 
 abbrev μ-loop : tie.MeasureT-loop
 μ-loop out₀ at bytes i₀ out i = length bytes - i
@@ -18,7 +18,7 @@ abbrev μ-loop : tie.MeasureT-loop
 loop-holds : tie.Need-loop-holds Inv-loop μ-loop
 loop-holds c =
     let a = c .args in
-    (omega arith, (refl, put-start (a .out .now) (a .bytes .now) (a .at)))
+    (omega arith, refl, put-start (a .out .now) (a .bytes .now) (a .at))
 
 shared-slice-read-out : tie.Need-shared-slice-read-out Inv-loop μ-loop
 shared-slice-read-out c = omega arith
@@ -38,10 +38,9 @@ loop-less c = omega arith
 loop-again : tie.Need-loop-again Inv-loop μ-loop
 loop-again c =
     let l = c .before .before .loop in
-    let a = c .before .before .before .args in (
-      omega arith,
-      (length-set (l .out) _ _ ∙ l .inv .1 .0, put-turn (l .out) (a .bytes .now) (a .at) (l .i) (omega arith) ∙ l .inv .1 .1),
-    )
+    let (few, kept, so-far) = l .inv in
+    let a = c .before .before .before .args in
+    (omega arith, length-set (l .out) _ _ ∙ kept, put-turn (l .out) (a .bytes .now) (a .at) (l .i) (omega arith) ∙ so-far)
 
 add-result : tie.Need-add-result Inv-loop μ-loop
 add-result c = omega arith
@@ -52,8 +51,9 @@ same-length c = omega arith
 returns : tie.Need-returns Inv-loop μ-loop
 returns c =
     let l = c .before .loop in
+    let (few, kept, so-far) = l .inv in
     let a = c .before .before .args in
-    (refl, sym (put-end (l .out) (a .bytes .now) (a .at) (l .i) (omega arith)) ∙ l .inv .1 .1)
+    (refl, sym (put-end (l .out) (a .bytes .now) (a .at) (l .i) (omega arith)) ∙ so-far)
 
 pub put-bytes-spec : {M : Type 1} → statement M
 put-bytes-spec =

@@ -13,6 +13,16 @@ use borrow.Author.Needs.{needs}
 use Rattle.circuit.proofs.rules.check_run.Statement.{statement}
 use Rattle.circuit.proofs.rules.check_run.Tie as tie
 
+-- places in the code, each from a later one
+abbrev entry : tie.After-check-vector → tie.Start
+entry c = c .before .before
+
+abbrev refusing : tie.After-known-told → tie.After-check-vector
+refusing c = c .before .before .before
+
+abbrev passing : tie.After-enum-told → tie.After-check-vector
+passing c = c .before .before
+
 check-vector-requires : tie.Need-check-vector-requires
 check-vector-requires c κs = search needs
 
@@ -22,9 +32,9 @@ enum-known-refusal c = search needs
 returns : tie.Need-returns
 unfolding runRows
 returns c =
-    let a = c .before .before .before .before .before .args in
+    let a = entry (refusing c) .args in
     refused-on (circuitRows (a .lines) (a .gates .now) ++ vectorRows (a .lines) (a .state)) (levelRows (a .gates .now) (a .level)) fine _ _
-    (ap found (sym (c .before .refusal .given .1)) ∙ c .before .before .before .check-vector .ensures)
+    (ap found (sym (c .before .refusal .given .1)) ∙ refusing c .check-vector .ensures)
 
 enum-told : tie.Need-enum-told
 enum-told c = search needs
@@ -33,8 +43,8 @@ returns-2 : tie.Need-returns-2
 unfolding runRows levelRows
 returns-2 c =
     let e = c .before in
-    let a = e .before .before .before .before .args in
-    let passed = ap found (sym (e .enum-told .given .1)) ∙ e .before .before .check-vector .ensures in
+    let a = entry (passing e) .args in
+    let passed = ap found (sym (e .enum-told .given .1)) ∙ passing e .check-vector .ensures in
     sym (fine-on (circuitRows (a .lines) (a .gates .now) ++ vectorRows (a .lines) (a .state)) (levelRows (a .gates .now) (a .level)) fine passed
     ∙ rw (lt-ltb (length (gatesOf (a .gates .now))) (a .level) (omega (arith, gates-count (a .gates .now)))))
 
@@ -42,8 +52,8 @@ returns-3 : tie.Need-returns-3
 unfolding runRows levelRows
 returns-3 c =
     let e = c .before in
-    let a = e .before .before .before .before .args in
-    let passed = ap found (sym (e .enum-told .given .1)) ∙ e .before .before .check-vector .ensures in
+    let a = entry (passing e) .args in
+    let passed = ap found (sym (e .enum-told .given .1)) ∙ passing e .check-vector .ensures in
     sym (fine-on (circuitRows (a .lines) (a .gates .now) ++ vectorRows (a .lines) (a .state)) (levelRows (a .gates .now) (a .level)) fine passed
     ∙ rw (le-ltb (length (gatesOf (a .gates .now))) (a .level) (omega (arith, gates-count (a .gates .now)))))
 

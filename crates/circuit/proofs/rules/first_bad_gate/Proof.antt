@@ -18,14 +18,21 @@ use Rattle.circuit.proofs.rules.first_bad_gate.Tie as tie
 
 abbrev Inv-loop : tie.InvT-loop
 Inv-loop lines gates whole i₀ i = (whole ≡ length (gatesOf gates))
-    × ((i ≤ whole) × (firstBadGate lines gates ≡ firstBadFrom (badGate lines) (not (eqb (length gates % 3) 0)) (i + 1) (drop i (gatesOf gates))))
+    × (i ≤ whole) × (firstBadGate lines gates ≡ firstBadFrom (badGate lines) (not (eqb (length gates % 3) 0)) (i + 1) (drop i (gatesOf gates)))
 
 abbrev μ-loop : tie.MeasureT-loop
 μ-loop lines gates whole i₀ i = whole - i
 
+-- places in the code, each from a later one
+abbrev entry : tie.At-loop Inv-loop μ-loop → tie.Start Inv-loop μ-loop
+entry c = c .before .before
+
+abbrev turn : tie.After-gate-at Inv-loop μ-loop → tie.At-loop Inv-loop μ-loop
+turn c = c .before .before .before
+
 loop-holds : tie.Need-loop-holds Inv-loop μ-loop
 unfolding firstBadGate
-loop-holds c = (sym (gates-count _), (search needs, refl))
+loop-holds c = (sym (gates-count _), search needs, refl)
 
 add-gate : tie.Need-add-gate Inv-loop μ-loop
 add-gate c = omega arith
@@ -44,11 +51,11 @@ add-result c = omega arith
 
 returns : tie.Need-returns Inv-loop μ-loop
 returns c =
-    let l = c .before .before .before .before .before in
-    let a = l .before .before .args in
+    let l = turn (c .before .before) in
+    let a = entry l .args in
     let e = sym (gate-entry (gatesOf (a .gates .now)) (l .loop .i) (c .before .before .before .gate .result .0) (search needs))
     ∙ sym (c .before .before .gate-at .ensures) in
-    sym (l .loop .inv .1 .1 ∙ bad-found (badGate (a .lines)) _ (gatesOf (a .gates .now)) (l .loop .i) noGate (omega arith)
+    sym (l .loop .inv .2 ∙ bad-found (badGate (a .lines)) _ (gatesOf (a .gates .now)) (l .loop .i) noGate (omega arith)
     (ap (badGate (a .lines)) e ∙ sym (c .before .bad-gate .ensures) ∙ c .if1 .taken))
 
 add-i : tie.Need-add-i Inv-loop μ-loop
@@ -59,16 +66,14 @@ loop-less c = omega arith
 
 loop-again : tie.Need-loop-again Inv-loop μ-loop
 loop-again c =
-    let l = c .before .before .before .before .before in
-    let a = l .before .before .args in
+    let l = turn (c .before .before) in
+    let a = entry l .args in
     let e = sym (gate-entry (gatesOf (a .gates .now)) (l .loop .i) (c .before .before .before .gate .result .0) (search needs))
     ∙ sym (c .before .before .gate-at .ensures) in (
       l .loop .inv .0,
-      (
-        omega arith,
-        l .loop .inv .1 .1 ∙ bad-passed (badGate (a .lines)) _ (gatesOf (a .gates .now)) (l .loop .i) noGate (omega arith)
-            (ap (badGate (a .lines)) e ∙ sym (c .before .bad-gate .ensures) ∙ c .if1 .left),
-      ),
+      omega arith,
+      l .loop .inv .2 ∙ bad-passed (badGate (a .lines)) _ (gatesOf (a .gates .now)) (l .loop .i) noGate (omega arith)
+          (ap (badGate (a .lines)) e ∙ sym (c .before .bad-gate .ensures) ∙ c .if1 .left),
     )
 
 add-result-2 : tie.Need-add-result-2 Inv-loop μ-loop
@@ -77,16 +82,16 @@ add-result-2 c = omega arith
 returns-2 : tie.Need-returns-2 Inv-loop μ-loop
 returns-2 c =
     let l = c .before .before in
-    let a = l .before .before .args in
-    sym (l .loop .inv .1 .1 ∙ bad-end (badGate (a .lines)) (not (eqb (length (a .gates .now) % 3) 0)) (gatesOf (a .gates .now)) (l .loop .i)
+    let a = entry l .args in
+    sym (l .loop .inv .2 ∙ bad-end (badGate (a .lines)) (not (eqb (length (a .gates .now) % 3) 0)) (gatesOf (a .gates .now)) (l .loop .i)
     (omega arith) ∙ rw (eq-eqb (length (a .gates .now) % 3) 0 (c .if2 .taken)))
 
 returns-3 : tie.Need-returns-3 Inv-loop μ-loop
 returns-3 c =
     let l = c .before .before in
-    let a = l .before .before .args in
+    let a = entry l .args in
     let last : l .loop .i ≡ length (a .gates .now) / 3 = omega arith in
-    sym (l .loop .inv .1 .1 ∙ bad-end (badGate (a .lines)) (not (eqb (length (a .gates .now) % 3) 0)) (gatesOf (a .gates .now)) (l .loop .i)
+    sym (l .loop .inv .2 ∙ bad-end (badGate (a .lines)) (not (eqb (length (a .gates .now) % 3) 0)) (gatesOf (a .gates .now)) (l .loop .i)
     (omega arith) ∙ rw (ne-eqb (length (a .gates .now) % 3) 0 (c .if2 .left), last))
 
 pub first-bad-gate-spec : {M : Type 1} → statement M

@@ -19,6 +19,13 @@ Inv-loop lines vectors i₀ i = firstBadVector lines vectors ≡ firstBadFrom (l
 abbrev μ-loop : tie.MeasureT-loop
 μ-loop lines vectors i₀ i = length vectors - i
 
+-- places in the code, each from a later one
+abbrev entry : tie.At-loop Inv-loop μ-loop → tie.Start Inv-loop μ-loop
+entry c = c .before .before
+
+abbrev turn : tie.After-below Inv-loop μ-loop → tie.At-loop Inv-loop μ-loop
+turn c = c .before .before .before
+
 loop-holds : tie.Need-loop-holds Inv-loop μ-loop
 unfolding firstBadVector
 loop-holds c = refl
@@ -37,8 +44,8 @@ add-result c = omega arith
 
 returns : tie.Need-returns Inv-loop μ-loop
 returns c =
-    let l = c .before .before .before .before in
-    let a = l .before .before .args in
+    let l = turn (c .before) in
+    let a = entry l .args in
     let over = le-leb (2 ^ (a .lines)) (getD (a .vectors .now) (l .loop .i) 0)
     (ltb-false _ _ (sym (c .before .below .ensures) ∙ not-true _ (c .if1 .taken))) in
     sym (l .loop .inv ∙ bad-found (leb (2 ^ (a .lines))) false (a .vectors .now) (l .loop .i) 0 (omega arith) over)
@@ -51,8 +58,8 @@ loop-less c = omega arith
 
 loop-again : tie.Need-loop-again Inv-loop μ-loop
 loop-again c =
-    let l = c .before .before .before .before in
-    let a = l .before .before .args in
+    let l = turn (c .before) in
+    let a = entry l .args in
     let fits = lt-leb (2 ^ (a .lines)) (getD (a .vectors .now) (l .loop .i) 0)
     (ltb-true _ _ (sym (c .before .below .ensures) ∙ not-false _ (c .if1 .left))) in
     l .loop .inv ∙ bad-passed (leb (2 ^ (a .lines))) false (a .vectors .now) (l .loop .i) 0 (omega arith) fits
@@ -60,7 +67,7 @@ loop-again c =
 returns-2 : tie.Need-returns-2 Inv-loop μ-loop
 returns-2 c =
     let l = c .before in
-    let a = l .before .before .args in
+    let a = entry l .args in
     sym (l .loop .inv ∙ bad-end (leb (2 ^ (a .lines))) false (a .vectors .now) (l .loop .i) (omega arith))
 
 pub first-bad-vector-spec : {M : Type 1} → statement M

@@ -14,24 +14,30 @@ use Rattle.dropping.proofs.checked.uncaught_to_front.Statement.{stateme
 use Rattle.dropping.proofs.checked.uncaught_to_front.Tie as tie
 
 abbrev Inv-loop : tie.InvT-loop
-Inv-loop lines gates vector list₀ whole left₀ i₀ list left i = (i ≤ whole) ×
-    ((length list ≡ length list₀) × Going lines (gatesOf gates) vector (faultsOf list₀) (faultsOf list) left i)
+Inv-loop lines gates vector list₀ whole left₀ i₀ list left i = (i ≤ whole)
+    × (length list ≡ length list₀) × Going lines (gatesOf gates) vector (faultsOf list₀) (faultsOf list) left i
 
 abbrev μ-loop : tie.MeasureT-loop
 μ-loop lines gates vector list₀ whole left₀ i₀ list left i = whole - i
 
+-- places in the code, each from a later one
+abbrev entry : tie.At-loop Inv-loop μ-loop → tie.Start Inv-loop μ-loop
+entry c = c .before .before .before
+
+abbrev taking : tie.After-take-record Inv-loop μ-loop → tie.At-loop Inv-loop μ-loop
+taking c = c .before .before .before
+
 loop-holds : tie.Need-loop-holds Inv-loop μ-loop
 loop-holds c =
     let a = c .before .before .args in
-    (omega arith, (refl, start (a .lines) (gatesOf (a .gates .now)) (a .vector) (faultsOf (a .list .now)) (c .before .before .pre .1 .faults)))
+    (omega arith, refl, start (a .lines) (gatesOf (a .gates .now)) (a .vector) (faultsOf (a .list .now)) (c .before .before .pre .1 .faults))
 
 take-record-requires : tie.Need-take-record-requires Inv-loop μ-loop
 take-record-requires c κs =
-    let a = c .before .before .before .before .before .args in
     let l = c .before .before .loop in
-    let going = l .inv .1 .1 in
+    let (seen, kept, going) = l .inv in
     let number = records-count (l .list) in
-    (c .before .before .before .before .before .pre .0, ((omega (arith, l .inv .1 .0), below going), fault-here going (omega (arith, l .inv .1 .0))))
+    (entry (c .before .before) .pre .0, ((omega (arith, kept), below going), fault-here going (omega (arith, kept))))
 
 add-i : tie.Need-add-i Inv-loop μ-loop
 add-i c = omega arith
@@ -41,22 +47,23 @@ loop-less c = omega arith
 
 loop-again : tie.Need-loop-again Inv-loop μ-loop
 loop-again c =
-    let l = c .before .before .before .before .before .loop in
+    let l = taking (c .before .before) .loop in
+    let (seen, kept, going) = l .inv in
     let turn = c .before .before .take-record .ensures in
     let number = records-count (l .list) in
-    (omega arith, (turn .1 .1 ∙ l .inv .1 .0, as-is (on (l .inv .1 .1) (omega (arith, l .inv .1 .0)) _ refl) (turn .1 .0) (turn .0)))
+    (omega arith, turn .1 .1 ∙ kept, as-is (on going (omega (arith, kept)) _ refl) (turn .1 .0) (turn .0))
 
 same-length : tie.Need-same-length Inv-loop μ-loop
-same-length c = c .before .loop .inv .1 .0
+same-length c = c .before .loop .inv .1
 
 returns : tie.Need-returns Inv-loop μ-loop
 returns c =
     let l = c .before .loop in
-    let going = l .inv .1 .1 in
+    let (seen, kept, going) = l .inv in
     let number = records-count (l .list) in
-    let end : length (faultsOf (l .list)) ≤ l .i = omega (arith, l .inv .1 .0) in
+    let end : length (faultsOf (l .list)) ≤ l .i = omega (arith, kept) in
     let whole : length (l .list) ≡ 4 * length (faultsOf (l .list)) = omega
-    (arith, l .inv .1 .0, long going, c .before .before .before .before .pre .1 .whole) in
+    (arith, kept, long going, entry (c .before) .pre .1 .whole) in
     (done-number going end, sym (numbers-faults (l .list) whole) ∙ ap wordsOf (done-list going end))
 
 pub uncaught-to-front-spec : {M : Type 1} → statement M

@@ -11,6 +11,16 @@ use borrow.Author.Needs.{needs}
 use Rattle.dropping.proofs.rules.check_drop.Statement.{statement}
 use Rattle.dropping.proofs.rules.check_drop.Tie as tie
 
+-- places in the code, each from a later one
+abbrev entry : tie.After-check-vector → tie.Start
+entry c = c .before .before .before
+
+abbrev refusing : tie.After-known-told → tie.After-check-vector
+refusing c = c .before .before .before
+
+abbrev passing : tie.After-enum-told → tie.After-check-vector
+passing c = c .before .before
+
 check-vector-requires : tie.Need-check-vector-requires
 check-vector-requires c κs = search needs
 
@@ -22,8 +32,8 @@ enum-told c = search needs
 
 first-bad-record-requires : tie.Need-first-bad-record-requires
 first-bad-record-requires c κs =
-    let a = c .before .before .before .before .before .args in
-    vector-ok (a .lines) (a .gates .now) (a .vector) (ap found (sym (c .enum-told .given .1)) ∙ c .before .before .check-vector .ensures) .circuit
+    let a = entry (passing c) .args in
+    vector-ok (a .lines) (a .gates .now) (a .vector) (ap found (sym (c .enum-told .given .1)) ∙ passing c .check-vector .ensures) .circuit
 
 check-records-requires : tie.Need-check-records-requires
 check-records-requires c κs = search needs
@@ -31,15 +41,16 @@ check-records-requires c κs = search needs
 returns : tie.Need-returns
 unfolding dropRows
 returns c =
-    let a = c .before .before .before .before .before .before .args in
+    let a = entry (refusing c) .args in
     refused-on (circuitRows (a .lines) (a .gates .now) ++ vectorRows (a .lines) (a .vector)) _ fine _ _
-    (ap found (sym (c .before .refusal .given .1)) ∙ c .before .before .before .check-vector .ensures)
+    (ap found (sym (c .before .refusal .given .1)) ∙ refusing c .check-vector .ensures)
 
 returns-2 : tie.Need-returns-2
 unfolding dropRows
 returns-2 c =
-    let a = c .before .before .before .before .before .before .before .args in
-    let passed = ap found (sym (c .before .before .enum-told .given .1)) ∙ c .before .before .before .before .check-vector .ensures in
+    let told = c .before .before in
+    let a = entry (passing told) .args in
+    let passed = ap found (sym (told .enum-told .given .1)) ∙ passing told .check-vector .ensures in
     c .check-records .ensures ∙ ap (λ bad. firstOf (recordRows bad) fine) (c .before .first-bad-record .ensures)
     ∙ sym (fine-on (circuitRows (a .lines) (a .gates .now) ++ vectorRows (a .lines) (a .vector)) _ fine passed)
 

@@ -24,6 +24,13 @@ Inv-loop lines gates list whole i₀ i = (i ≤ whole) × (firstBadRecord (badRe
 abbrev μ-loop : tie.MeasureT-loop
 μ-loop lines gates list whole i₀ i = whole - i
 
+-- places in the code, each from a later one
+abbrev entry : tie.At-loop Inv-loop μ-loop → tie.Start Inv-loop μ-loop
+entry c = c .before .before .before
+
+abbrev turn : tie.After-bad-record Inv-loop μ-loop → tie.At-loop Inv-loop μ-loop
+turn c = c .before .before .before
+
 loop-holds : tie.Need-loop-holds Inv-loop μ-loop
 unfolding firstBadRecord
 loop-holds c = (search needs, refl)
@@ -39,8 +46,8 @@ add-result c = omega arith
 
 returns : tie.Need-returns Inv-loop μ-loop
 returns c =
-    let l = c .before .before .before .before in
-    let a = l .before .before .before .args in
+    let l = turn (c .before) in
+    let a = entry l .args in
     let number = records-count (a .list .now) in
     let bad = ap (badRecord (a .lines) (gatesOf (a .gates .now))) (sym (c .before .before .record-at .ensures)) ∙ sym
     (c .before .bad-record .ensures) ∙ c .if1 .taken in
@@ -55,8 +62,8 @@ loop-less c = omega arith
 
 loop-again : tie.Need-loop-again Inv-loop μ-loop
 loop-again c =
-    let l = c .before .before .before .before in
-    let a = l .before .before .before .args in
+    let l = turn (c .before) in
+    let a = entry l .args in
     let number = records-count (a .list .now) in
     let good = ap (badRecord (a .lines) (gatesOf (a .gates .now))) (sym (c .before .before .record-at .ensures)) ∙ sym
     (c .before .bad-record .ensures) ∙ c .if1 .left in (
@@ -71,7 +78,7 @@ add-result-2 c = omega arith
 returns-2 : tie.Need-returns-2 Inv-loop μ-loop
 returns-2 c =
     let l = c .before .before in
-    let a = l .before .before .before .args in
+    let a = entry l .args in
     let number = records-count (a .list .now) in
     sym (l .loop .inv .1 ∙ bad-end (badRecord (a .lines) (gatesOf (a .gates .now))) (not (eqb (length (a .list .now) % 4) 0))
     (faultsOf (a .list .now)) (l .loop .i) (omega arith) ∙ rw (eq-eqb (length (a .list .now) % 4) 0 (c .if2 .taken)))
@@ -79,7 +86,7 @@ returns-2 c =
 returns-3 : tie.Need-returns-3 Inv-loop μ-loop
 returns-3 c =
     let l = c .before .before in
-    let a = l .before .before .before .args in
+    let a = entry l .args in
     let number = records-count (a .list .now) in
     let last : l .loop .i ≡ length (a .list .now) / 4 = omega arith in
     sym (l .loop .inv .1 ∙ bad-end (badRecord (a .lines) (gatesOf (a .gates .now))) (not (eqb (length (a .list .now) % 4) 0))

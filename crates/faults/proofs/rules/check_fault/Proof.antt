@@ -7,6 +7,19 @@ use borrow.Author.Needs.{needs}
 use Rattle.faults.proofs.rules.check_fault.Statement.{statement}
 use Rattle.faults.proofs.rules.check_fault.Tie as tie
 
+-- the `match` over the class, from the end of each of its branches
+abbrev stuck : tie.After-unless → tie.After-shared-slice-known
+stuck c = c .before .before .before
+
+abbrev no-gate : tie.After-unless2 → tie.After-shared-slice-known
+no-gate c = c .before .before .before
+
+abbrev less-control : tie.After-unless3 → tie.After-shared-slice-known
+less-control c = c .before .before .before
+
+abbrev more-control : tie.After-unless4 → tie.After-shared-slice-known
+more-control c = c .before .before .before
+
 is-stuck-at-requires : tie.Need-is-stuck-at-requires
 is-stuck-at-requires c κs = search needs
 
@@ -33,25 +46,25 @@ unless-requires-4 c κs = search needs
 
 returns : tie.Need-returns
 returns c =
-    let a = c .before .before .before .before .args in
+    let a = stuck c .before .args in
     c .unless .ensures ∙ nine (a .lines) (a .gates .now) (a .fault) _
     (c .before .is-stuck-at .ensures ∙ sym (class-one (a .lines) (gatesOf (a .gates .now)) (a .fault) (c .before .before .match .keys1)))
 
 returns-2 : tie.Need-returns-2
 returns-2 c =
-    let a = c .before .before .before .before .args in
+    let a = no-gate c .before .args in
     c .unless2 .ensures ∙ nine (a .lines) (a .gates .now) (a .fault) _
     (c .before .is-missing-gate .ensures ∙ sym (class-two (a .lines) (gatesOf (a .gates .now)) (a .fault) (c .before .before .match .keys2)))
 
 returns-3 : tie.Need-returns-3
 returns-3 c =
-    let a = c .before .before .before .before .args in
+    let a = less-control c .before .args in
     c .unless3 .ensures ∙ nine (a .lines) (a .gates .now) (a .fault) _
     (c .before .is-missing-control .ensures ∙ sym (class-three (a .lines) (gatesOf (a .gates .now)) (a .fault) (c .before .before .match .keys3)))
 
 returns-4 : tie.Need-returns-4
 returns-4 c =
-    let a = c .before .before .before .before .args in
+    let a = more-control c .before .args in
     c .unless4 .ensures ∙ nine (a .lines) (a .gates .now) (a .fault) _
     (c .before .is-extra-control .ensures ∙ sym (class-four (a .lines) (gatesOf (a .gates .now)) (a .fault) (c .before .before .match .keys4)))
 

@@ -25,6 +25,13 @@ Inv-loop lines gates entries whole i₀ i = (i ≤ whole)
 abbrev μ-loop : tie.MeasureT-loop
 μ-loop lines gates entries whole i₀ i = whole - i
 
+-- places in the code, each from a later one
+abbrev entry : tie.At-loop Inv-loop μ-loop → tie.Start Inv-loop μ-loop
+entry c = c .before .before .before
+
+abbrev turn : tie.After-bad-entry Inv-loop μ-loop → tie.At-loop Inv-loop μ-loop
+turn c = c .before .before .before
+
 loop-holds : tie.Need-loop-holds Inv-loop μ-loop
 unfolding firstBadRecord
 loop-holds c = (search needs, refl)
@@ -40,8 +47,8 @@ add-result c = omega arith
 
 returns : tie.Need-returns Inv-loop μ-loop
 returns c =
-    let l = c .before .before .before .before in
-    let a = l .before .before .before .args in
+    let l = turn (c .before) in
+    let a = entry l .args in
     let number = records-count (a .entries .now) in
     let bad = ap (badEntry (a .lines) (gatesOf (a .gates .now))) (sym (c .before .before .record-at .ensures)) ∙ sym (c .before .bad-entry .ensures)
     ∙ c .if1 .taken in
@@ -56,8 +63,8 @@ loop-less c = omega arith
 
 loop-again : tie.Need-loop-again Inv-loop μ-loop
 loop-again c =
-    let l = c .before .before .before .before in
-    let a = l .before .before .before .args in
+    let l = turn (c .before) in
+    let a = entry l .args in
     let number = records-count (a .entries .now) in
     let good = ap (badEntry (a .lines) (gatesOf (a .gates .now))) (sym (c .before .before .record-at .ensures)) ∙ sym (c .before .bad-entry .ensures)
     ∙ c .if1 .left in (
@@ -72,7 +79,7 @@ add-result-2 c = omega arith
 returns-2 : tie.Need-returns-2 Inv-loop μ-loop
 returns-2 c =
     let l = c .before .before in
-    let a = l .before .before .before .args in
+    let a = entry l .args in
     let number = records-count (a .entries .now) in
     sym (l .loop .inv .1 ∙ bad-end (badEntry (a .lines) (gatesOf (a .gates .now))) (not (eqb (length (a .entries .now) % 4) 0))
     (faultsOf (a .entries .now)) (l .loop .i) (omega arith) ∙ rw (eq-eqb (length (a .entries .now) % 4) 0 (c .if2 .taken)))
@@ -80,7 +87,7 @@ returns-2 c =
 returns-3 : tie.Need-returns-3 Inv-loop μ-loop
 returns-3 c =
     let l = c .before .before in
-    let a = l .before .before .before .args in
+    let a = entry l .args in
     let number = records-count (a .entries .now) in
     let last : l .loop .i ≡ length (a .entries .now) / 4 = omega arith in
     sym (l .loop .inv .1 ∙ bad-end (badEntry (a .lines) (gatesOf (a .gates .now))) (not (eqb (length (a .entries .now) % 4) 0))

@@ -11,6 +11,10 @@ use Rattle.faults.proofs.RuleLaws.{gate-in}
 use Rattle.faults.proofs.rules.is_extra_control.Statement.{statement}
 use Rattle.faults.proofs.rules.is_extra_control.Tie as tie
 
+-- the entry
+abbrev entry : tie.After-is-gate → tie.Start
+entry c = c .before .before .before
+
 gate-of-requires : tie.Need-gate-of-requires
 gate-of-requires c κs = search needs
 
@@ -21,7 +25,7 @@ returns : tie.Need-returns
 unfolding isExtraControl
 returns c =
     let asked = c .before in
-    let a = asked .before .before .before .args in
+    let a = entry asked .args in
     let gate : isGate (gatesOf (a .gates .now)) (a .fault .place) ≡ asked .is-gate .result =
     sym (asked .is-gate .ensures ∙ ap (isGate (gatesOf (a .gates .now))) (asked .before .gate-of .ensures)) in
     rw (gate, not-true (asked .is-gate .result) (c .if1 .taken))
@@ -30,7 +34,7 @@ returns-2 : tie.Need-returns-2
 unfolding isExtraControl
 returns-2 c =
     let asked = c .before .before in
-    let start = asked .before .before .before in
+    let start = entry asked in
     let a = start .args in
     let gs = gatesOf (a .gates .now) in
     let gate : isGate gs (a .fault .place) ≡ asked .is-gate .result =
@@ -41,7 +45,7 @@ returns-2 c =
 gate-at-requires : tie.Need-gate-at-requires
 gate-at-requires c κs =
     let asked = c .before .before in
-    let a = asked .before .before .before .args in
+    let a = entry asked .args in
     let place = gate-in (gatesOf (a .gates .now)) (asked .before .gate-of .result .0)
     (sym (asked .is-gate .ensures) ∙ not-false (asked .is-gate .result) (c .before .if1 .left)) in
     omega (arith, gates-count (a .gates .now))
@@ -54,7 +58,7 @@ unfolding isExtraControl
 returns-3 c =
     let named = c .before .before .before .before in
     let asked = named .before in
-    let a = asked .before .before .before .args in
+    let a = entry asked .args in
     let gs = gatesOf (a .gates .now) in
     let gate : isGate gs (a .fault .place) ≡ asked .is-gate .result =
     sym (asked .is-gate .ensures ∙ ap (isGate gs) (asked .before .gate-of .ensures)) in
@@ -73,7 +77,7 @@ returns-4 c =
     let tested = c .before .before in
     let named = tested .before .before .before in
     let asked = named .before in
-    let a = asked .before .before .before .args in
+    let a = entry asked .args in
     let gs = gatesOf (a .gates .now) in
     let gate : isGate gs (a .fault .place) ≡ asked .is-gate .result =
     sym (asked .is-gate .ensures ∙ ap (isGate gs) (asked .before .gate-of .ensures)) in

@@ -12,6 +12,13 @@ use borrow.Author.Needs.{needs}
 use Rattle.faults.proofs.rules.is_stuck_at.Statement.{statement}
 use Rattle.faults.proofs.rules.is_stuck_at.Tie as tie
 
+-- places in the code, each from a later one
+abbrev entry : tie.After-gates-before → tie.Start
+entry c = c .before .before .before
+
+abbrev leveled : tie.After-value → tie.Else1
+leveled c = c .before .before .before
+
 level-of-requires : tie.Need-level-of-requires
 level-of-requires c κs = search needs
 
@@ -21,14 +28,14 @@ gates-before-requires c κs = search needs
 returns : tie.Need-returns
 unfolding isStuckAt
 returns c =
-    let a = c .before .before .before .before .args in
+    let a = entry (c .before) .args in
     let gs = gatesOf (a .gates .now) in
     rw (lt-leb (a .fault .place) (length gs) (omega arith))
 
 returns-2 : tie.Need-returns-2
 unfolding isStuckAt
 returns-2 c =
-    let a = c .before .before .before .before .before .args in
+    let a = entry (c .before .before) .args in
     let gs = gatesOf (a .gates .now) in
     rw (le-leb (a .fault .place) (length gs) (omega arith), site-above (a .lines) gs (a .fault .place) (a .fault .line) (c .if2 .taken))
 
@@ -41,7 +48,7 @@ value-requires c κs = search needs
 returns-3 : tie.Need-returns-3
 unfolding isStuckAt
 returns-3 c =
-    let a = c .before .before .before .before .before .before .before .before .args in
+    let a = entry (leveled (c .before) .before) .args in
     let gs = gatesOf (a .gates .now) in
     let site : c .before .value .result ≡ bit (sites (a .lines) gs (a .fault .place)) (a .fault .line) = cc in
     rw (le-leb (a .fault .place) (length gs) (omega arith), ← site, ne-eqb _ _ (c .if3 .taken))
@@ -49,7 +56,7 @@ returns-3 c =
 returns-4 : tie.Need-returns-4
 unfolding isStuckAt
 returns-4 c =
-    let a = c .before .before .before .before .before .before .before .before .before .args in
+    let a = entry (leveled (c .before .before) .before) .args in
     let gs = gatesOf (a .gates .now) in
     let site : c .before .before .value .result ≡ bit (sites (a .lines) gs (a .fault .place)) (a .fault .line) = cc in
     rw (le-leb (a .fault .place) (length gs) (omega arith), ← site, eq-eqb _ _ (c .before .if3 .left))

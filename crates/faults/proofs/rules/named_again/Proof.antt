@@ -1,5 +1,5 @@
 -- `faults::rules::named_again` meets its contract: each turn passes a record of another site. Assumes nothing.
-use Prim.Native.Nat.{_-_}
+use Prim.Native.Nat.{_+_, _-_}
 use mathlib.Core.Path.{_≡_, refl, ap, sym, _∙_}
 use native.Mathlib.Omega.{arith}
 use lib.ListN.{getD, drop}
@@ -19,6 +19,13 @@ Inv-loop entries ahead whole first i₀ i = (first ≡ getD (faultsOf entries) a
 abbrev μ-loop : tie.MeasureT-loop
 μ-loop entries ahead whole first i₀ i = whole - i
 
+-- places in the code, each from a later one
+abbrev entry : tie.At-loop Inv-loop μ-loop → tie.Start Inv-loop μ-loop
+entry c = c .before .before .before
+
+abbrev turn : tie.After-same-site Inv-loop μ-loop → tie.At-loop Inv-loop μ-loop
+turn c = c .before .before .before
+
 record-at-requires : tie.Need-record-at-requires Inv-loop μ-loop
 record-at-requires c κs = search needs
 
@@ -36,12 +43,14 @@ same-site-requires c κs = search needs
 
 returns : tie.Need-returns Inv-loop μ-loop
 returns c =
-    let l = c .before .before .before .before in
-    let a = l .before .before .before .args in
+    let l = turn (c .before) in
+    let a = entry l .args in
     let number = records-count (a .entries .now) in
     let first = l .before .record-at .result in
     let hit = ap (sameSite first) (sym (c .before .before .record-at2 .ensures)) ∙ sym (c .before .same-site .ensures) ∙ c .if1 .taken in
-    sym (rw (l .loop .inv .0) at (l .loop .inv .1 ∙ some-found (sameSite first) (faultsOf (a .entries .now)) (l .loop .i) noFault (omega arith) hit))
+    let rest = drop (a .ahead + 1) (faultsOf (a .entries .now)) in
+    sym (ap (λ f. some (sameSite f) rest) (sym (l .loop .inv .0)) ∙ l .loop .inv .1
+    ∙ some-found (sameSite first) (faultsOf (a .entries .now)) (l .loop .i) noFault (omega arith) hit)
 
 add-i-2 : tie.Need-add-i-2 Inv-loop μ-loop
 add-i-2 c = omega arith
@@ -51,8 +60,8 @@ loop-less c = omega arith
 
 loop-again : tie.Need-loop-again Inv-loop μ-loop
 loop-again c =
-    let l = c .before .before .before .before in
-    let a = l .before .before .before .args in
+    let l = turn (c .before) in
+    let a = entry l .args in
     let number = records-count (a .entries .now) in
     let first = l .before .record-at .result in
     let miss = ap (sameSite first) (sym (c .before .before .record-at2 .ensures)) ∙ sym (c .before .same-site .ensures) ∙ c .if1 .left in
@@ -61,10 +70,12 @@ loop-again c =
 returns-2 : tie.Need-returns-2 Inv-loop μ-loop
 returns-2 c =
     let l = c .before in
-    let a = l .before .before .before .args in
+    let a = entry l .args in
     let number = records-count (a .entries .now) in
     let first = l .before .record-at .result in
-    sym (rw (l .loop .inv .0) at (l .loop .inv .1 ∙ some-end (sameSite first) (faultsOf (a .entries .now)) (l .loop .i) (omega arith)))
+    let rest = drop (a .ahead + 1) (faultsOf (a .entries .now)) in
+    sym (ap (λ f. some (sameSite f) rest) (sym (l .loop .inv .0)) ∙ l .loop .inv .1
+    ∙ some-end (sameSite first) (faultsOf (a .entries .now)) (l .loop .i) (omega arith))
 
 pub named-again-spec : {M : Type 1} → statement M
 named-again-spec =

@@ -21,6 +21,13 @@ Inv-loop lines gates end sum₀ i₀ sum i =
 abbrev μ-loop : tie.MeasureT-loop
 μ-loop lines gates end sum₀ i₀ sum i = end - i
 
+-- places in the code, each from a later one
+abbrev entry : tie.At-loop Inv-loop μ-loop → tie.Start Inv-loop μ-loop
+entry c = c .before .before
+
+abbrev turn : tie.After-sites-at Inv-loop μ-loop → tie.At-loop Inv-loop μ-loop
+turn c = c .before .before .before
+
 add-end : tie.Need-add-end Inv-loop μ-loop
 add-end c = omega arith
 
@@ -49,8 +56,8 @@ loop-less c = omega arith
 
 loop-again : tie.Need-loop-again Inv-loop μ-loop
 loop-again c =
-    let l = c .before .before .before .before in
-    let a = l .before .before .args in
+    let l = turn (c .before) in
+    let a = entry l .args in
     let fit = length-lines-le 32 (c .before .sites-at .result) in
     let more = sites-more (a .lines) (gatesOf (a .gates .now)) (l .loop .i) _ (omega arith) (omega arith)
     (c .before .sites-at .ensures ∙ ap (sites (a .lines) (gatesOf (a .gates .now))) (c .before .before .level .ensures)) in
@@ -59,7 +66,7 @@ loop-again c =
 returns : tie.Need-returns Inv-loop μ-loop
 returns c =
     let l = c .before in
-    let a = l .before .before .args in
+    let a = entry l .args in
     omega (arith, sites-none (a .lines) (gatesOf (a .gates .now)) (l .loop .i) (omega arith))
 
 pub site-count-spec : {M : Type 1} → statement M

@@ -17,7 +17,10 @@ same-length : tie.Need-same-length
 same-length c = search needs
 
 returns : tie.Need-returns
-returns c = rw (c .before .before .put-22 .ensures, c .before .before .before .before .before .before .put-2 .ensures) (put-four _ _ _)
+returns c =
+    let high = c .before .before in
+    let low = high .before .before .before .before in
+    rw (high .put-22 .ensures, low .put-2 .ensures) (put-four _ _ _)
 
 pub put-4-spec : {M : Type 1} → statement M
 put-4-spec = tie.close (tie.spec put-2-requires add-put-2 put-2-requires-2 same-length returns)

@@ -12,13 +12,20 @@ use Rattle.job.proofs.bytes.put_words.Tie as tie
 
 abbrev Inv-loop : tie.InvT-loop
 Inv-loop out₀ at words i₀ out i = (i ≤ length words)
-    × ((length out ≡ length out₀) × (sets out (at + 4 * i) (each (bytesOf 4) (drop i words)) ≡ sets out₀ at (each (bytesOf 4) words)))
+    × (length out ≡ length out₀) × (sets out (at + 4 * i) (each (bytesOf 4) (drop i words)) ≡ sets out₀ at (each (bytesOf 4) words))
 
 abbrev μ-loop : tie.MeasureT-loop
 μ-loop out₀ at words i₀ out i = length words - i
 
+-- places in the code, each from a later one
+abbrev entry : tie.At-loop Inv-loop μ-loop → tie.Start Inv-loop μ-loop
+entry c = c .before .before .before
+
+abbrev turn : tie.After-shared-slice-known2 Inv-loop μ-loop → tie.At-loop Inv-loop μ-loop
+turn c = c .before .before .before
+
 loop-holds : tie.Need-loop-holds Inv-loop μ-loop
-loop-holds c = (omega arith, (refl, words-put-start _ _ _))
+loop-holds c = (omega arith, refl, words-put-start _ _ _)
 
 mul-put-4 : tie.Need-mul-put-4 Inv-loop μ-loop
 mul-put-4 c = omega arith
@@ -43,14 +50,12 @@ loop-less c = omega arith
 
 loop-again : tie.Need-loop-again Inv-loop μ-loop
 loop-again c =
-    let l = c .before .before .before .before .before .before in
-    let a = l .before .before .before .args in
+    let l = turn (c .before .before .before) in
+    let a = entry l .args in
     let put = c .before .before .put-4 in (
       omega arith,
-      (
-        put .kept .0 ∙ l .loop .inv .1 .0,
-        rw (put .ensures) (words-put (l .loop .out) (a .words .now) (a .at) (l .loop .i) (omega arith) ∙ l .loop .inv .1 .1),
-      ),
+      put .kept .0 ∙ l .loop .inv .1,
+      rw (put .ensures) (words-put (l .loop .out) (a .words .now) (a .at) (l .loop .i) (omega arith) ∙ l .loop .inv .2),
     )
 
 same-length : tie.Need-same-length Inv-loop μ-loop
@@ -59,8 +64,8 @@ same-length c = omega arith
 returns : tie.Need-returns Inv-loop μ-loop
 returns c =
     let l = c .before in
-    let a = l .before .before .before .args in
-    sym (words-put-end (l .loop .out) (a .words .now) (a .at) (l .loop .i) (omega arith)) ∙ l .loop .inv .1 .1
+    let a = entry l .args in
+    sym (words-put-end (l .loop .out) (a .words .now) (a .at) (l .loop .i) (omega arith)) ∙ l .loop .inv .2
 
 pub put-words-spec : {M : Type 1} → statement M
 put-words-spec =

@@ -11,13 +11,13 @@ use Rattle.job.proofs.bytes.read_words.Tie as tie
 
 abbrev Inv-loop : tie.InvT-loop
 Inv-loop bytes at out₀ i₀ out i = (i ≤ length out₀)
-    × ((length out ≡ length out₀) × (sets out i (wordsAt (length out₀ - i) bytes (at + 4 * i)) ≡ wordsAt (length out₀) bytes at))
+    × (length out ≡ length out₀) × (sets out i (wordsAt (length out₀ - i) bytes (at + 4 * i)) ≡ wordsAt (length out₀) bytes at)
 
 abbrev μ-loop : tie.MeasureT-loop
 μ-loop bytes at out₀ i₀ out i = length out₀ - i
 
 loop-holds : tie.Need-loop-holds Inv-loop μ-loop
-loop-holds c = let a = c .before .before .args in (omega arith, (refl, words-read-start (a .out .now) (a .bytes .now) (a .at)))
+loop-holds c = let a = c .before .before .args in (omega arith, refl, words-read-start (a .out .now) (a .bytes .now) (a .at))
 
 mul-number-at-4 : tie.Need-mul-number-at-4 Inv-loop μ-loop
 mul-number-at-4 c = omega arith
@@ -45,11 +45,9 @@ loop-again c =
     let l = c .before .before in
     let a = l .before .before .before .args in (
       omega arith,
-      (
-        simp length-set (l .loop .inv .1 .0),
-        rw (c .number-at-4 .ensures) (words-read (l .loop .out) (a .bytes .now) (a .at) (l .loop .i) (length (a .out .now)) (omega arith)
-            ∙ l .loop .inv .1 .1),
-      ),
+      simp length-set (l .loop .inv .1),
+      rw (c .number-at-4 .ensures) (words-read (l .loop .out) (a .bytes .now) (a .at) (l .loop .i) (length (a .out .now)) (omega arith)
+          ∙ l .loop .inv .2),
     )
 
 same-length : tie.Need-same-length Inv-loop μ-loop
@@ -59,7 +57,7 @@ returns : tie.Need-returns Inv-loop μ-loop
 returns c =
     let l = c .before in
     let a = l .before .before .before .args in
-    sym (words-read-end (l .loop .out) (a .bytes .now) (a .at) (l .loop .i) (length (a .out .now)) (omega arith)) ∙ l .loop .inv .1 .1
+    sym (words-read-end (l .loop .out) (a .bytes .now) (a .at) (l .loop .i) (length (a .out .now)) (omega arith)) ∙ l .loop .inv .2
 
 pub read-words-spec : {M : Type 1} → statement M
 read-words-spec =

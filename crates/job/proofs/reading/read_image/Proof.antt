@@ -6,17 +6,23 @@ use Rattle.job.proofs.reading.read_image.Statement.{statement}
 use Rattle.job.proofs.reading.read_image.Tie as tie
 
 -- the entry, and the place where the lists have been read
+abbrev lent : tie.After-slice-known2 → tie.Start
+lent c = c .before .before .before
+
 abbrev entry : tie.After-read-lists → tie.Start
-entry c = c .before .before .before .before .before .before
+entry c = lent (c .before .before .before)
+
+abbrev stored : tie.After-slice-known4 → tie.After-gates
+stored c = c .before .before .before
 
 abbrev listed : tie.After-slice-known4 → tie.After-read-lists
-listed c = c .before .before .before .before
+listed c = stored c .before
 
 ok : (c : tie.Start) → ReadOk (c .args .image .now) (length (c .args .gates .now)) (length (c .args .vectors .now))
 ok c = read-ok (c .args .image .now) (length (c .args .gates .now)) (length (c .args .vectors .now)) (c .pre)
 
 read-lists-requires : tie.Need-read-lists-requires
-read-lists-requires c κs = let w = ok (c .before .before .before .before .before) in (w .head .whole, (w .gates-room, w .vectors-room))
+read-lists-requires c κs = let w = ok (lent (c .before .before)) in (w .head .whole, (w .gates-room, w .vectors-room))
 
 lines-in-requires : tie.Need-lines-in-requires
 lines-in-requires c κs = ok (entry (listed c)) .head .long

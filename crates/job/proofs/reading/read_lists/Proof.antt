@@ -10,11 +10,17 @@ use Rattle.job.proofs.reading.read_lists.Statement.{statement}
 use Rattle.job.proofs.reading.read_lists.Tie as tie
 
 -- the entry, and the place where both counts are known
+abbrev lent : tie.After-vectors-in → tie.After-slice-known
+lent c = c .before .before .before
+
 abbrev entry : tie.After-vectors-in → tie.Start
-entry c = c .before .before .before .before .before
+entry c = lent c .before .before
+
+abbrev relent : tie.After-slice-known3 → tie.After-read-words-arg
+relent c = c .before .before .before
 
 abbrev counted : tie.After-slice-known3 → tie.After-vectors-in
-counted c = c .before .before .before .before
+counted c = relent c .before
 
 -- the counts fit the lists
 fits : (c : tie.After-vectors-in)

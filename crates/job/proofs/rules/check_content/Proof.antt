@@ -8,6 +8,10 @@ use borrow.Author.Needs.{needs}
 use Rattle.job.proofs.rules.check_content.Statement.{statement}
 use Rattle.job.proofs.rules.check_content.Tie as tie
 
+-- the entry
+abbrev entry : tie.After-first-bad-gate → tie.Start
+entry c = c .before .before .before
+
 first-bad-gate-requires : tie.Need-first-bad-gate-requires
 first-bad-gate-requires c κs = search needs
 
@@ -16,8 +20,7 @@ first-bad-vector-requires c κs = search needs
 
 cast-unless : tie.Need-cast-unless
 cast-unless c =
-    let c4 = c .before .before .before .before in
-    let a = c4 .args in
+    let a = entry (c .before) .args in
     omega (arith, c .before .first-bad-gate .ensures, first-bad-le (a .lines) (a .gates .now))
 
 unless-requires : tie.Need-unless-requires
@@ -25,8 +28,7 @@ unless-requires c κs = search needs
 
 cast-unless-2 : tie.Need-cast-unless-2
 cast-unless-2 c =
-    let c5 = c .before .before .before .before .before in
-    let a = c5 .args in
+    let a = entry (c .before .before) .args in
     omega (arith, c .before .first-bad-vector .ensures, first-vector-le (a .lines) (a .vectors .now))
 
 unless-requires-2 : tie.Need-unless-requires-2

@@ -23,8 +23,8 @@ else2 c = c .before .before .before
 abbrev else3 : tie.Else4 → tie.Else3
 else3 c = c .before .before
 
-abbrev else4 : tie.Else5 → tie.Else4
-else4 c = c .before .before .before .before
+abbrev else4 : tie.After-bad-counts → tie.Else4
+else4 c = c .before .before .before
 
 -- the bytes lent
 abbrev bytes : tie.Else2 → List ℕ
@@ -45,7 +45,7 @@ classes c = sym (c .before .bad-classes-in .ensures) ∙ c .if4 .left
 
 -- what rule 5 asks
 counted : (c : tie.After-bad-counts)
-    → badCounts (gatesIn (bytes-in (c .before .before .before))) (vectorsIn (bytes-in (c .before .before .before))) ≡ c .bad-counts .result
+    → badCounts (gatesIn (bytes-in (else4 c))) (vectorsIn (bytes-in (else4 c))) ≡ c .bad-counts .result
 counted c = ap₂ badCounts (sym (c .before .before .gates-in .ensures)) (sym (c .before .vectors-in .ensures)) ∙ sym (c .bad-counts .ensures)
 
 returns : tie.Need-returns
@@ -95,7 +95,7 @@ bad-counts-requires c κs = search needs
 
 returns-5 : tie.Need-returns-5
 returns-5 c =
-    let r = c .before .before .before .before in
+    let r = else4 (c .before) in
     let q = else3 r in
     let p = else2 q in
     header-counts _ (else1 p .if1 .left) (form p) (lines q) (classes r) (counted (c .before) ∙ c .if5 .taken)
@@ -109,7 +109,7 @@ unless-requires c κs = search needs
 returns-6 : tie.Need-returns-6
 returns-6 c =
     let s = c .before .before in
-    let r = else4 s in
+    let r = else4 (s .before) in
     let q = else3 r in
     let p = else2 q in
     rw (c .before .bad-sizes .ensures) at (c .unless .ensures)

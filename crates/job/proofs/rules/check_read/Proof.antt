@@ -10,14 +10,20 @@ use Rattle.job.proofs.rules.check_read.Statement.{statement}
 use Rattle.job.proofs.rules.check_read.Tie as tie
 
 -- the entry, the place where the header has passed, and that where the content has been checked
+abbrev lent : tie.After-check-header → tie.After-shared-slice-known
+lent c = c .before .before .before
+
 abbrev entry : tie.After-check-header → tie.Start
-entry c = c .before .before .before .before
+entry c = lent c .before
 
 abbrev told : tie.After-check-read-into → tie.After-enum-told
 told c = c .before .before .before
 
+abbrev stored : tie.After-slice-known4 → tie.After-gates
+stored c = c .before .before .before
+
 abbrev checked : tie.After-slice-known4 → tie.After-check-read-into
-checked c = c .before .before .before .before
+checked c = stored c .before
 
 passed : (c : tie.After-enum-told) → fine ≡ firstOf (headerRows (entry (c .before .before) .args .image .now)) fine
 passed c = ap found (sym (c .enum-told .given .1)) ∙ c .before .before .check-header .ensures

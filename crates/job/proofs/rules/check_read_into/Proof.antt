@@ -12,11 +12,17 @@ use Rattle.job.proofs.rules.check_read_into.Statement.{statement}
 use Rattle.job.proofs.rules.check_read_into.Tie as tie
 
 -- the entry, and the place where the lists have been read
+abbrev lent : tie.After-slice-known2 → tie.Start
+lent c = c .before .before .before
+
 abbrev entry : tie.After-read-lists → tie.Start
-entry c = c .before .before .before .before .before .before
+entry c = lent (c .before .before .before)
+
+abbrev stored : tie.After-slice-known4 → tie.After-gates
+stored c = c .before .before .before
 
 abbrev listed : tie.After-slice-known4 → tie.After-read-lists
-listed c = c .before .before .before .before
+listed c = stored c .before
 
 abbrev lists : tie.After-vectors-in → tie.After-read-lists
 lists c = listed (c .before .before .before)
@@ -40,7 +46,7 @@ fronts c = (length-take-le _ _ (fits c .0), length-take-le _ _ (fits c .1))
 
 read-lists-requires : tie.Need-read-lists-requires
 read-lists-requires c κs =
-    let s = c .before .before .before .before .before in
+    let s = lent (c .before .before) in
     let h = head s in
     let room = s .pre .1 in
     (h .whole, (omega arith, omega arith))

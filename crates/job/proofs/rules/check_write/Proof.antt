@@ -14,8 +14,11 @@ use Rattle.job.proofs.rules.check_write.Statement.{statement}
 use Rattle.job.proofs.rules.check_write.Tie as tie
 
 -- the entry, and the places past each test, from the one past the next
+abbrev lent : tie.Else1 → tie.After-shared-slice-known
+lent c = c .before .before .before
+
 abbrev entry : tie.Else1 → tie.Start
-entry c = c .before .before .before .before
+entry c = lent c .before
 
 abbrev else1 : tie.Else2 → tie.Else1
 else1 c = c .before .before

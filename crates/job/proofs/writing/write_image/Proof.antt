@@ -10,8 +10,11 @@ use Rattle.job.proofs.writing.write_image.Statement.{statement}
 use Rattle.job.proofs.writing.write_image.Tie as tie
 
 -- the entry, and the places where the header and the gates have been put
+abbrev lent : tie.After-put-header-arg → tie.After-shared-slice-known
+lent c = c .before .before .before
+
 abbrev entry : tie.After-put-header-arg → tie.Start
-entry c = c .before .before .before .before
+entry c = lent c .before
 
 abbrev headed : tie.After-put-words-arg → tie.After-put-header
 headed c = c .before .before .before

@@ -5,6 +5,10 @@ use borrow.Author.Needs.{needs}
 use Rattle.judge.proofs.checked.judge_gates.Statement.{statement}
 use Rattle.judge.proofs.checked.judge_gates.Tie as tie
 
+-- the entry
+abbrev entry : tie.After-words → tie.Start
+entry c = c .before .before .before
+
 mark-set-gates-requires : tie.Need-mark-set-gates-requires
 mark-set-gates-requires c κs = search needs
 
@@ -14,7 +18,7 @@ tally-gates-requires c κs = search needs
 returns : tie.Need-returns
 returns c =
     let marks = c .before .before in
-    let start = marks .before .before .before .before in
+    let start = entry (marks .before) in
     let a = start .args in
     c .tally-gates .ensures
     ∙ set-gates (a .lines) (a .gates .now) (a .vectors .now) (start .pre .0) (a .class) _ (start .pre .1) (marks .mark-set-gates .ensures)

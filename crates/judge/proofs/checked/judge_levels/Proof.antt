@@ -5,6 +5,10 @@ use borrow.Author.Needs.{needs}
 use Rattle.judge.proofs.checked.judge_levels.Statement.{statement}
 use Rattle.judge.proofs.checked.judge_levels.Tie as tie
 
+-- the entry
+abbrev entry : tie.After-at-0 → tie.Start
+entry c = c .before .before .before
+
 mark-set-levels-requires : tie.Need-mark-set-levels-requires
 mark-set-levels-requires c κs = search needs
 
@@ -14,7 +18,7 @@ tally-levels-requires c κs = search needs
 returns : tie.Need-returns
 returns c =
     let marks = c .before .before .before in
-    let start = marks .before .before .before .before .before in
+    let start = entry (marks .before .before) in
     let a = start .args in
     c .tally-levels .ensures
     ∙ set-levels (a .lines) (a .gates .now) (a .vectors .now) (start .pre) _ _

@@ -19,6 +19,13 @@ Inv-loop at-0₀ at-1₀ lines gates vectors i₀ at-0 at-1 i =
 abbrev μ-loop : tie.MeasureT-loop
 μ-loop at-0₀ at-1₀ lines gates vectors i₀ at-0 at-1 i = length vectors - i
 
+-- places in the code, each from a later one
+abbrev entry : tie.At-loop Inv-loop μ-loop → tie.Start Inv-loop μ-loop
+entry c = c .before .before .before
+
+abbrev looping : tie.After-mark-levels-arg2 Inv-loop μ-loop → tie.In-loop Inv-loop μ-loop
+looping c = c .before .before .before
+
 loop-holds : tie.Need-loop-holds Inv-loop μ-loop
 loop-holds c = (refl, refl)
 
@@ -39,9 +46,9 @@ loop-less c = omega arith
 
 loop-again : tie.Need-loop-again Inv-loop μ-loop
 loop-again c =
-    let turn = c .before .before .before .before in
+    let turn = looping (c .before) in
     let l = turn .before in
-    let a = l .before .before .before .args in
+    let a = entry l .args in
     let gs = gatesOf (a .gates .now) in
     let i = l .loop .i in (
       l .loop .inv .0 ∙ mark-all-more (levelMarks (a .lines) gs 0) (l .loop .at-0) (a .vectors .now) i (turn .loop-test .taken)
@@ -53,7 +60,7 @@ loop-again c =
 returns : tie.Need-returns Inv-loop μ-loop
 returns c =
     let l = c .before in
-    let a = l .before .before .before .args in
+    let a = entry l .args in
     let gs = gatesOf (a .gates .now) in (
       sym (l .loop .inv .0 ∙ mark-all-end (levelMarks (a .lines) gs 0) (l .loop .at-0) (a .vectors .now) (l .loop .i) (c .loop-test .left)),
       sym (l .loop .inv .1 ∙ mark-all-end (levelMarks (a .lines) gs 1) (l .loop .at-1) (a .vectors .now) (l .loop .i) (c .loop-test .left)),

@@ -19,6 +19,13 @@ Inv-loop lines gates vectors coverage₀ i₀ coverage i =
 abbrev μ-loop : tie.MeasureT-loop
 μ-loop lines gates vectors coverage₀ i₀ coverage i = length vectors - i
 
+-- the place where what is lent is known, and the entry
+abbrev lent : tie.At-loop Inv-loop μ-loop → tie.After-shared-slice-known Inv-loop μ-loop
+lent c = c .before .before .before
+
+abbrev entry : tie.At-loop Inv-loop μ-loop → tie.Start Inv-loop μ-loop
+entry c = lent c .before
+
 empty-requires : tie.Need-empty-requires Inv-loop μ-loop
 empty-requires c κs = search needs
 
@@ -37,7 +44,7 @@ added-requires : tie.Need-added-requires Inv-loop μ-loop
 added-requires c κs =
     let turn = c .before in
     let l = turn .before in
-    let start = l .before .before .before .before in
+    let start = entry l in
     let a = start .args in
     vector-passes (a .lines) (a .gates .now) (getD (a .vectors .now) (l .loop .i) 0) (start .pre .0)
     (all-at (λ x. x < 2 ^ (a .lines)) (a .vectors .now) (l .loop .i) 0 (turn .loop-test .taken) (start .pre .1))
@@ -52,7 +59,7 @@ loop-again : tie.Need-loop-again Inv-loop μ-loop
 loop-again c =
     let turn = c .before .before in
     let l = turn .before in
-    let a = l .before .before .before .before .args in
+    let a = entry l .args in
     let gs = gatesOf (a .gates .now) in
     l .loop .inv ∙ with-all-more (a .lines) gs (l .loop .coverage) (a .vectors .now) (l .loop .i) (turn .loop-test .taken)
     ∙ ap (λ d. withAll d (a .lines) gs (drop (l .loop .i + 1) (a .vectors .now))) (sym (c .added .ensures))
@@ -60,7 +67,7 @@ loop-again c =
 returns : tie.Need-returns Inv-loop μ-loop
 returns c =
     let l = c .before in
-    let a = l .before .before .before .before .args in
+    let a = entry l .args in
     sym (l .loop .inv ∙ with-all-end (a .lines) (gatesOf (a .gates .now)) (l .loop .coverage) (a .vectors .now) (l .loop .i) (c .loop-test .left))
 
 pub covered-by-spec : {M : Type 1} → statement M

@@ -22,9 +22,9 @@ use Rattle.marking.proofs.counts.first_gates.Tie as tie
 
 abbrev Inv-loop : tie.InvT-loop
 Inv-loop class lines gates marks end i₀ i =
-    (end ≡ length (gatesOf gates)) × ((end ≤ mostGates)
+    (end ≡ length (gatesOf gates)) × (end ≤ mostGates)
     × (keep (gateLeft marks) (classFaults lines (gatesOf gates) class)
-    ≡ keep (gateLeft marks) (each (gatePlace lines (gatesOf gates) class) (upFrom (i + 1) (end + 1 - (i + 1))))))
+    ≡ keep (gateLeft marks) (each (gatePlace lines (gatesOf gates) class) (upFrom (i + 1) (end + 1 - (i + 1)))))
 
 abbrev μ-loop : tie.MeasureT-loop
 μ-loop class lines gates marks end i₀ i = end - i
@@ -35,10 +35,8 @@ loop-holds c =
     let a = start .args in
     let end = sym (gates-count (a .gates .now)) in (
       end,
-      (
-        omega arith,
-        gates-start (a .lines) (gatesOf (a .gates .now)) (a .class) (a .marks .now) _ (start .pre .0 .some-lines) (start .pre .1) end,
-      ),
+      omega arith,
+      gates-start (a .lines) (gatesOf (a .gates .now)) (a .class) (a .marks .now) _ (start .pre .0 .some-lines) (start .pre .1) end,
     )
 
 level-requires : tie.Need-level-requires Inv-loop μ-loop
@@ -81,7 +79,7 @@ returns c =
     let lines = lined .gate-lines .ensures ∙ ap (gateLines (a .lines) gs (a .class)) number in
     let lacks = rw lines at (lacked .lacking .ensures) in
     rw (c .before .told-gate .ensures ∙ number, c .lowest .ensures ∙ ap (λ w. getD (linesOn mostLines w) 0 0) lacks)
-    (sym (ap firstTold (l .loop .inv .1 .1)
+    (sym (ap firstTold (l .loop .inv .2)
     ∙ gate-found (a .lines) gs (a .class) (a .marks .now) i _ (turn .loop-test .taken) (start .pre .0 .lines-fit)
     (λ z. tested .if1 .taken (lacks ∙ z))))
 
@@ -105,17 +103,15 @@ loop-again c =
     let lines = lined .gate-lines .ensures ∙ ap (gateLines (a .lines) gs (a .class)) number in
     let lacks = rw lines at (lacked .lacking .ensures) in (
       l .loop .inv .0,
-      (
-        l .loop .inv .1 .0,
-        l .loop .inv .1 .1 ∙ gate-passed (a .lines) gs (a .class) (a .marks .now) i _ (turn .loop-test .taken) (sym lacks ∙ c .if1 .left),
-      ),
+      l .loop .inv .1,
+      l .loop .inv .2 ∙ gate-passed (a .lines) gs (a .class) (a .marks .now) i _ (turn .loop-test .taken) (sym lacks ∙ c .if1 .left),
     )
 
 returns-2 : tie.Need-returns-2 Inv-loop μ-loop
 returns-2 c =
     let l = c .before in
     let a = l .before .before .args in
-    sym (ap firstTold (l .loop .inv .1 .1
+    sym (ap firstTold (l .loop .inv .2
     ∙ passed-all (gateLeft (a .marks .now)) (gatePlace (a .lines) (gatesOf (a .gates .now)) (a .class)) (l .loop .i + 1) _ (omega arith)))
 
 pub first-gates-spec : {M : Type 1} → statement M

@@ -8,6 +8,13 @@ use borrow.Author.Needs.{needs}
 use Rattle.report_text.proofs.classes.put_complete.Statement.{statement}
 use Rattle.report_text.proofs.classes.put_complete.Tie as tie
 
+-- the entry, and the place where the letter is known
+abbrev entry : tie.After-letter-of → tie.Start
+entry c = c .before .before .before
+
+abbrev lettered : tie.After-out → tie.After-letter-of
+lettered c = c .before .before .before
+
 letter-of-requires : tie.Need-letter-of-requires
 letter-of-requires c κs = search needs
 
@@ -16,18 +23,17 @@ slice-aggregate-put-line c = search needs
 
 put-line-requires : tie.Need-put-line-requires
 put-line-requires c κs =
-    let a = c .before .before .before .before in
-    room-as _ _ (ap (λ letter. numbersLine letter (a .args .caught ∷ a .args .total ∷ []) true) (c .before .letter-of .ensures)) (a .pre)
+    let a = entry (c .before) in
+    room-as _ _ (ap (λ first. numbersLine first (a .args .caught ∷ a .args .total ∷ []) true) (c .before .letter-of .ensures)) (a .pre)
 
 same-length : tie.Need-same-length
 same-length c = search needs
 
 returns : tie.Need-returns
 returns c =
-    let c4 = c .before .before .before .before in
-    let c7 = c4 .before .before .before in
-    let a = c7 .args in
-    put-as _ _ (a .out .now) _ (ap (λ letter. numbersLine letter (a .caught ∷ a .total ∷ []) true) (c4 .letter-of .ensures))
+    let letter = lettered (c .before) in
+    let a = entry letter .args in
+    put-as _ _ (a .out .now) _ (ap (λ first. numbersLine first (a .caught ∷ a .total ∷ []) true) (letter .letter-of .ensures))
     (c .before .before .put-line .ensures)
 
 pub put-complete-spec : {M : Type 1} → statement M

@@ -13,9 +13,15 @@ use borrow.Author.Needs.{needs}
 use Rattle.report_text.proofs.classes.put_left.Statement.{statement}
 use Rattle.report_text.proofs.classes.put_left.Tie as tie
 
--- the entry, and all the numbers there are
+-- the entry, the place where the letter is known, and all the numbers there are
+abbrev lent : tie.After-letter-of → tie.After-slice-known
+lent c = c .before .before .before
+
 abbrev entry : tie.After-letter-of → tie.Start
-entry c = c .before .before .before .before
+entry c = lent c .before
+
+abbrev lettered : tie.After-out → tie.After-letter-of
+lettered c = c .before .before .before
 
 abbrev all : tie.Start → List ℕ
 all c = c .args .caught ∷ c .args .total ∷ c .args .first .place ∷ c .args .first .line ∷ c .args .first .value ∷ []
@@ -51,7 +57,7 @@ same-length : tie.Need-same-length
 same-length c = search needs
 
 returns : tie.Need-returns
-returns c = put-as _ _ _ _ (line (c .before .before .before .before)) (c .before .before .put-line .ensures)
+returns c = put-as _ _ _ _ (line (lettered (c .before))) (c .before .before .put-line .ensures)
 
 pub put-left-spec : {M : Type 1} → statement M
 put-left-spec =

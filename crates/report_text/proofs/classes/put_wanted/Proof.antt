@@ -12,8 +12,11 @@ use Rattle.report_text.proofs.classes.put_wanted.Statement.{statement}
 use Rattle.report_text.proofs.classes.put_wanted.Tie as tie
 
 -- the entry, and the place past the test
+abbrev lent : tie.After-is-wanted → tie.After-slice-known
+lent c = c .before .before .before
+
 abbrev entry : tie.After-is-wanted → tie.Start
-entry c = c .before .before .before .before
+entry c = lent c .before
 
 abbrev on : tie.After-judge-class → tie.Else1
 on c = c .before .before

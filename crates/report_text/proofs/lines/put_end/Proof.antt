@@ -5,6 +5,13 @@ use borrow.Author.Needs.{needs}
 use Rattle.report_text.proofs.lines.put_end.Statement.{statement}
 use Rattle.report_text.proofs.lines.put_end.Tie as tie
 
+-- the branches of the test, each from its end
+abbrev ok-put : tie.After-put-bytes → tie.Then1
+ok-put c = c .before .before .before
+
+abbrev bare-put : tie.After-put-bytes2 → tie.Else1
+bare-put c = c .before .before .before
+
 slice-aggregate-put-bytes : tie.Need-slice-aggregate-put-bytes
 slice-aggregate-put-bytes c = search needs
 
@@ -17,7 +24,7 @@ same-length : tie.Need-same-length
 same-length c = search needs
 
 returns : tie.Need-returns
-returns c = put-as _ _ _ _ (end-ok _ (c .before .before .before .before .before .if1 .taken)) (c .before .before .put-bytes .ensures)
+returns c = put-as _ _ _ _ (end-ok _ (ok-put (c .before .before) .if1 .taken)) (c .before .before .put-bytes .ensures)
 
 slice-aggregate-put-bytes-2 : tie.Need-slice-aggregate-put-bytes-2
 slice-aggregate-put-bytes-2 c = search needs
@@ -31,7 +38,7 @@ same-length-2 : tie.Need-same-length-2
 same-length-2 c = search needs
 
 returns-2 : tie.Need-returns-2
-returns-2 c = put-as _ _ _ _ (end-bare _ (c .before .before .before .before .before .if1 .left)) (c .before .before .put-bytes2 .ensures)
+returns-2 c = put-as _ _ _ _ (end-bare _ (bare-put (c .before .before) .if1 .left)) (c .before .before .put-bytes2 .ensures)
 
 pub put-end-spec : {M : Type 1} → statement M
 put-end-spec =

@@ -10,6 +10,13 @@ use Rattle.simulator.proofs.FaultyLaws.{faulty-missing-control, faulty-
 use Rattle.simulator.proofs.checked.catches.Statement.{statement}
 use Rattle.simulator.proofs.checked.catches.Tie as tie
 
+-- the `match` over the class, from the end of two of its branches
+abbrev less-control : tie.After-catches-changed → tie.After-shared-slice-known
+less-control c = c .before .before .before
+
+abbrev more-control : tie.After-catches-changed2 → tie.After-shared-slice-known
+more-control c = c .before .before .before
+
 catches-stuck-at-requires : tie.Need-catches-stuck-at-requires
 catches-stuck-at-requires c κs =
     let start = c .before .before in
@@ -78,7 +85,7 @@ returns-2 c =
 
 returns-3 : tie.Need-returns-3
 returns-3 c =
-    let start = c .before .before .before .before in
+    let start = less-control c .before in
     let a = start .args in
     let gs = gatesOf (a .gates .now) in
     let class = c .before .before .match .keys3 in
@@ -90,7 +97,7 @@ returns-3 c =
 
 returns-4 : tie.Need-returns-4
 returns-4 c =
-    let start = c .before .before .before .before in
+    let start = more-control c .before in
     let a = start .args in
     let gs = gatesOf (a .gates .now) in
     let class = c .before .before .match .keys4 in

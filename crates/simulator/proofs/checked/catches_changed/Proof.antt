@@ -7,6 +7,13 @@ use Rattle.circuit.proofs.RuleLaws.{target-fits}
 use Rattle.simulator.proofs.checked.catches_changed.Statement.{statement}
 use Rattle.simulator.proofs.checked.catches_changed.Tie as tie
 
+-- places in the code, each from a later one
+abbrev entry : tie.After-level-read → tie.Start
+entry c = c .before .before .before
+
+abbrev leveled : tie.After-step → tie.After-level-read
+leveled c = c .before .before
+
 gate-of-requires : tie.Need-gate-of-requires
 gate-of-requires c κs = search needs
 
@@ -24,14 +31,14 @@ gate-at-requires c κs = search needs
 
 step-requires-2 : tie.Need-step-requires-2
 step-requires-2 c κs =
-    let start = c .before .before .before .before .before .before in
+    let start = entry (leveled (c .before)) in
     let a = start .args in
     rw (c .gate-at .ensures) (target-fits (a .lines) (a .gates .now) _ (start .pre .0) (omega arith) (omega arith))
 
 returns : tie.Need-returns
 returns c =
-    let asked = c .before .before .before .before in
-    let read : asked .level-read .result .0 ≡ asked .before .before .before .args .fault .place - 1 = omega arith in
+    let asked = leveled (c .before .before) in
+    let read : asked .level-read .result .0 ≡ entry asked .args .fault .place - 1 = omega arith in
     cc
 
 pub catches-changed-spec : {M : Type 1} → statement M

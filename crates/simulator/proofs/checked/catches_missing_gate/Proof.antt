@@ -7,6 +7,10 @@ use Rattle.circuit.proofs.RuleLaws.{target-fits}
 use Rattle.simulator.proofs.checked.catches_missing_gate.Statement.{statement}
 use Rattle.simulator.proofs.checked.catches_missing_gate.Tie as tie
 
+-- the entry
+abbrev entry : tie.After-level-read → tie.Start
+entry c = c .before .before .before
+
 gate-of-requires : tie.Need-gate-of-requires
 gate-of-requires c κs = search needs
 
@@ -21,14 +25,14 @@ gate-at-requires c κs = search needs
 
 step-requires : tie.Need-step-requires
 step-requires c κs =
-    let start = c .before .before .before .before .before in
+    let start = entry (c .before .before) in
     let a = start .args in
     rw (c .gate-at .ensures) (target-fits (a .lines) (a .gates .now) _ (start .pre .0) (omega arith) (omega arith))
 
 returns : tie.Need-returns
 returns c =
     let asked = c .before .before .before in
-    let read : asked .level-read .result .0 ≡ asked .before .before .before .args .fault .place - 1 = omega arith in
+    let read : asked .level-read .result .0 ≡ entry asked .args .fault .place - 1 = omega arith in
     cc
 
 pub catches-missing-gate-spec : {M : Type 1} → statement M

@@ -14,6 +14,13 @@ use Rattle.simulator.proofs.FaultyLaws.{faulty-extra-control, run-chang
 use Rattle.simulator.proofs.checked.faulty_run.Statement.{statement}
 use Rattle.simulator.proofs.checked.faulty_run.Tie as tie
 
+-- the `match` over the class, from the end of two of its branches
+abbrev less-control : tie.After-run-changed → tie.After-shared-slice-known
+less-control c = c .before .before .before
+
+abbrev more-control : tie.After-run-changed2 → tie.After-shared-slice-known
+more-control c = c .before .before .before
+
 run-stuck-at-requires : tie.Need-run-stuck-at-requires
 run-stuck-at-requires c κs =
     let start = c .before .before in
@@ -87,7 +94,7 @@ returns-2 c =
 
 returns-3 : tie.Need-returns-3
 returns-3 c =
-    let start = c .before .before .before .before in
+    let start = less-control c .before in
     let a = start .args in
     let gs = gatesOf (a .gates .now) in
     let class = c .before .before .match .keys3 in
@@ -99,7 +106,7 @@ returns-3 c =
 
 returns-4 : tie.Need-returns-4
 returns-4 c =
-    let start = c .before .before .before .before in
+    let start = more-control c .before in
     let a = start .args in
     let gs = gatesOf (a .gates .now) in
     let class = c .before .before .match .keys4 in

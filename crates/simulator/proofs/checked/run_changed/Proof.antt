@@ -6,6 +6,13 @@ use borrow.Author.Needs.{needs}
 use Rattle.simulator.proofs.checked.run_changed.Statement.{statement}
 use Rattle.simulator.proofs.checked.run_changed.Tie as tie
 
+-- places in the code, each from a later one
+abbrev entry : tie.After-level-read → tie.Start
+entry c = c .before .before .before
+
+abbrev leveled : tie.After-level-made → tie.After-level-read
+leveled c = c .before .before
+
 gate-of-requires : tie.Need-gate-of-requires
 gate-of-requires c κs = search needs
 
@@ -26,8 +33,8 @@ run-rest-requires c κs = search needs
 
 returns : tie.Need-returns
 returns c =
-    let asked = c .before .before .before .before in
-    let read : asked .level-read .result .0 ≡ asked .before .before .before .args .fault .place - 1 = omega arith in
+    let asked = leveled (c .before .before) in
+    let read : asked .level-read .result .0 ≡ entry asked .args .fault .place - 1 = omega arith in
     cc
 
 pub run-changed-spec : {M : Type 1} → statement M

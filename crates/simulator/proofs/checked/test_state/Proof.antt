@@ -5,6 +5,10 @@ use borrow.Author.Needs.{needs}
 use Rattle.simulator.proofs.checked.test_state.Statement.{statement}
 use Rattle.simulator.proofs.checked.test_state.Tie as tie
 
+-- the entry
+abbrev entry : tie.After-line-at-zero → tie.Start
+entry c = c .before .before
+
 all-ones-requires : tie.Need-all-ones-requires
 all-ones-requires c κs = search needs
 
@@ -17,14 +21,14 @@ force-requires c κs = search needs
 returns : tie.Need-returns
 unfolding testState
 returns c =
-    let a = c .before .before .before .before .args in
+    let a = entry (c .before .before) .args in
     let zero = sym (c .before .before .line-at-zero .ensures) ∙ c .before .if1 .taken in
     rw (zero, ← c .before .before .before .all-ones .ensures) (c .force .ensures)
 
 returns-2 : tie.Need-returns-2
 unfolding testState
 returns-2 c =
-    let a = c .before .before .before .args in
+    let a = entry (c .before) .args in
     let zero = sym (c .before .line-at-zero .ensures) ∙ c .if1 .left in
     rw zero (c .before .before .all-ones .ensures)
 

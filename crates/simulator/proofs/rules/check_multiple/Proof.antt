@@ -12,6 +12,16 @@ use borrow.Author.Needs.{needs}
 use Rattle.simulator.proofs.rules.check_multiple.Statement.{statement}
 use Rattle.simulator.proofs.rules.check_multiple.Tie as tie
 
+-- places in the code, each from a later one
+abbrev entry : tie.After-check-vector → tie.Start
+entry c = c .before .before .before
+
+abbrev refusing : tie.After-known-told → tie.After-check-vector
+refusing c = c .before .before .before
+
+abbrev passing : tie.After-enum-told → tie.After-check-vector
+passing c = c .before .before
+
 check-vector-requires : tie.Need-check-vector-requires
 check-vector-requires c κs = search needs
 
@@ -23,22 +33,23 @@ enum-told c = search needs
 
 check-entries-requires : tie.Need-check-entries-requires
 check-entries-requires c κs =
-    let a = c .before .before .before .before .before .args in
-    vector-ok (a .lines) (a .gates .now) (a .vector) (ap found (sym (c .enum-told .given .1)) ∙ c .before .before .check-vector .ensures) .circuit
+    let a = entry (passing c) .args in
+    vector-ok (a .lines) (a .gates .now) (a .vector) (ap found (sym (c .enum-told .given .1)) ∙ passing c .check-vector .ensures) .circuit
 
 returns : tie.Need-returns
 unfolding multipleRows
 returns c =
-    let a = c .before .before .before .before .before .before .args in
+    let a = entry (refusing c) .args in
     refused-on (circuitRows (a .lines) (a .gates .now) ++ vectorRows (a .lines) (a .vector))
     (entriesRows (a .lines) (a .gates .now) (a .entries .now)) fine _ _
-    (ap found (sym (c .before .refusal .given .1)) ∙ c .before .before .before .check-vector .ensures)
+    (ap found (sym (c .before .refusal .given .1)) ∙ refusing c .check-vector .ensures)
 
 returns-2 : tie.Need-returns-2
 unfolding multipleRows
 returns-2 c =
-    let a = c .before .before .before .before .before .before .args in
-    let passed = ap found (sym (c .before .enum-told .given .1)) ∙ c .before .before .before .check-vector .ensures in
+    let told = c .before in
+    let a = entry (passing told) .args in
+    let passed = ap found (sym (told .enum-told .given .1)) ∙ passing told .check-vector .ensures in
     c .check-entries .ensures
     ∙ sym (fine-on (circuitRows (a .lines) (a .gates .now) ++ vectorRows (a .lines) (a .vector))
     (entriesRows (a .lines) (a .gates .now) (a .entries .now)) fine passed)

@@ -10,6 +10,16 @@ use borrow.Author.Needs.{needs}
 use Rattle.simulator.proofs.rules.check_test.Statement.{statement}
 use Rattle.simulator.proofs.rules.check_test.Tie as tie
 
+-- places in the code, each from a later one
+abbrev entry : tie.After-check-circuit → tie.Start
+entry c = c .before .before
+
+abbrev refusing : tie.After-known-told → tie.After-check-circuit
+refusing c = c .before .before .before
+
+abbrev passing : tie.After-enum-told → tie.After-check-circuit
+passing c = c .before .before
+
 check-circuit-requires : tie.Need-check-circuit-requires
 check-circuit-requires c κs = search needs
 
@@ -21,22 +31,23 @@ enum-told c = search needs
 
 check-fault-requires : tie.Need-check-fault-requires
 check-fault-requires c κs =
-    let a = c .before .before .before .before .args in
-    let ok = sound (a .lines) (a .gates .now) (ap found (sym (c .enum-told .given .1)) ∙ c .before .before .check-circuit .ensures) in
+    let a = entry (passing c) .args in
+    let ok = sound (a .lines) (a .gates .now) (ap found (sym (c .enum-told .given .1)) ∙ passing c .check-circuit .ensures) in
     ok
 
 returns : tie.Need-returns
 unfolding testRows
 returns c =
-    let a = c .before .before .before .before .before .args in
+    let a = entry (refusing c) .args in
     refused-on (circuitRows (a .lines) (a .gates .now)) (faultRows (a .lines) (a .gates .now) (a .fault)) fine _ _
-    (ap found (sym (c .before .refusal .given .1)) ∙ c .before .before .before .check-circuit .ensures)
+    (ap found (sym (c .before .refusal .given .1)) ∙ refusing c .check-circuit .ensures)
 
 returns-2 : tie.Need-returns-2
 unfolding testRows
 returns-2 c =
-    let a = c .before .before .before .before .before .args in
-    let passed = ap found (sym (c .before .enum-told .given .1)) ∙ c .before .before .before .check-circuit .ensures in
+    let told = c .before in
+    let a = entry (passing told) .args in
+    let passed = ap found (sym (told .enum-told .given .1)) ∙ passing told .check-circuit .ensures in
     c .check-fault .ensures ∙ sym (fine-on (circuitRows (a .lines) (a .gates .now)) (faultRows (a .lines) (a .gates .now) (a .fault)) fine passed)
 
 pub check-test-spec : {M : Type 1} → statement M

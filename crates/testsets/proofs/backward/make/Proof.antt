@@ -17,10 +17,17 @@ use Rattle.testsets.proofs.backward.make.Tie as tie
 abbrev Inv-loop : tie.InvT-loop
 Inv-loop lines gates room₀ ones end state₀ i₀ room state i =
     AtLevel gates 0 end state i
-    × ((length room ≡ length room₀) × (room ≡ take (i + 2) (backwardSet lines (gatesOf gates)) ++ drop (i + 2) room₀))
+    × (length room ≡ length room₀) × (room ≡ take (i + 2) (backwardSet lines (gatesOf gates)) ++ drop (i + 2) room₀)
 
 abbrev μ-loop : tie.MeasureT-loop
 μ-loop lines gates room₀ ones end state₀ i₀ room state i = end - i
+
+-- places in the code, each from a later one
+abbrev entry : tie.After-all-ones Inv-loop μ-loop → tie.Start Inv-loop μ-loop
+entry c = c .before .before .before
+
+abbrev turning : tie.After-gate-at Inv-loop μ-loop → tie.In-loop Inv-loop μ-loop
+turning c = c .before .before .before
 
 all-ones-requires : tie.Need-all-ones-requires Inv-loop μ-loop
 all-ones-requires c κs = omega arith
@@ -29,14 +36,15 @@ slice-write-room : tie.Need-slice-write-room Inv-loop μ-loop
 slice-write-room c = omega arith
 
 slice-write-room-2 : tie.Need-slice-write-room-2 Inv-loop μ-loop
-slice-write-room-2 c = let a = c .before .before .before .args in omega (arith, length-set (a .room .now) 0 0)
+slice-write-room-2 c = let a = entry c .args in omega (arith, length-set (a .room .now) 0 0)
 
 loop-holds : tie.Need-loop-holds Inv-loop μ-loop
 loop-holds c =
-    let start = c .before .before .before in
+    let start = entry c in
     let a = start .args in (
       level-first (a .gates .now) 0,
-      (refl, backward-begin (a .lines) (gatesOf (a .gates .now)) _ (c .all-ones .ensures) (a .room .now) (start .pre .1)),
+      refl,
+      backward-begin (a .lines) (gatesOf (a .gates .now)) _ (c .all-ones .ensures) (a .room .now) (start .pre .1),
     )
 
 level-requires : tie.Need-level-requires Inv-loop μ-loop
@@ -50,9 +58,9 @@ gate-at-requires c κs = omega arith
 
 step-requires : tie.Need-step-requires Inv-loop μ-loop
 step-requires c κs =
-    let turn = c .before .before .before in
+    let turn = turning c in
     let l = turn .before in
-    let start = l .before .before .before .before in
+    let start = entry (l .before) in
     let a = start .args in
     level-target (a .lines) (a .gates .now) (start .pre .0) 0 _ (l .loop .state) (l .loop .i) (l .loop .inv .0)
     (turn .loop-test .taken) (c .gate-at .result) (c .before .gate-after .result .0) (c .gate-at .ensures) (omega arith)
@@ -74,8 +82,8 @@ mul-room c = omega arith
 
 slice-write-room-3 : tie.Need-slice-write-room-3 Inv-loop μ-loop
 slice-write-room-3 c =
-    let l = c .before .before .before .before .before .before .before in
-    let a = l .before .before .before .before .args in
+    let l = turning (c .before .before .before) .before in
+    let a = entry (l .before) .args in
     omega (arith, length-set (a .room .now) 0 0, length-set (set (a .room .now) 0 0) 1 (l .before .all-ones .result))
 
 loop-less : tie.Need-loop-less Inv-loop μ-loop
@@ -86,10 +94,10 @@ loop-again c =
     let above = c .before in
     let stepped = above .before in
     let found = stepped .before in
-    let turn = found .before .before .before in
+    let turn = turning found in
     let l = turn .before in
     let ones = l .before .all-ones in
-    let start = l .before .before .before .before in
+    let start = entry (l .before) in
     let a = start .args in
     let gs = gatesOf (a .gates .now) in
     let i = l .loop .i in
@@ -100,11 +108,9 @@ loop-again c =
     (l .loop .state) i (l .loop .inv .0) (turn .loop-test .taken) (found .gate-at .result) (found .before .gate-after .result .0)
     (found .gate-at .ensures) (omega arith)) in (
       next,
-      (
-        length-set (l .loop .room) (i + 1 + 1) (c .inverse-at .result) ∙ l .loop .inv .1 .0,
-        backward-turn (a .lines) gs (ones .result) (ones .ensures) begun wide (l .loop .room) i _ _ _ (omega arith) (next .state-is)
-            (above .level2 .ensures) (c .inverse-at .ensures) (l .loop .inv .1 .1),
-      ),
+      length-set (l .loop .room) (i + 1 + 1) (c .inverse-at .result) ∙ l .loop .inv .1,
+      backward-turn (a .lines) gs (ones .result) (ones .ensures) begun wide (l .loop .room) i _ _ _ (omega arith) (next .state-is)
+          (above .level2 .ensures) (c .inverse-at .ensures) (l .loop .inv .2),
     )
 
 add-result : tie.Need-add-result Inv-loop μ-loop
@@ -116,18 +122,18 @@ cast-result c = omega arith
 same-length : tie.Need-same-length Inv-loop μ-loop
 same-length c =
     let l = c .before in
-    let a = l .before .before .before .before .args in
-    l .loop .inv .1 .0 ∙ length-set (set (a .room .now) 0 0) 1 (l .before .all-ones .result) ∙ length-set (a .room .now) 0 0
+    let a = entry (l .before) .args in
+    l .loop .inv .1 ∙ length-set (set (a .room .now) 0 0) 1 (l .before .all-ones .result) ∙ length-set (a .room .now) 0 0
 
 returns : tie.Need-returns Inv-loop μ-loop
 returns c =
     let l = c .before in
-    let a = l .before .before .before .before .args in
+    let a = entry (l .before) .args in
     let gs = gatesOf (a .gates .now) in
     let ones = l .before .all-ones .result in
     let begun = set (set (a .room .now) 0 0) 1 ones in (
       omega (arith, backward-length (a .lines) gs),
-      backward-end (a .lines) gs begun (l .loop .room) (l .loop .i) (omega arith) (l .loop .inv .1 .1)
+      backward-end (a .lines) gs begun (l .loop .room) (l .loop .i) (omega arith) (l .loop .inv .2)
           ∙ ap (λ rest. backwardSet (a .lines) gs ++ rest) (backward-rest (a .lines) gs ones (a .room .now)),
     )
 

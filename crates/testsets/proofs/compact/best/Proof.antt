@@ -17,9 +17,9 @@ use Rattle.testsets.proofs.compact.best.Tie as tie
 
 abbrev Inv-loop : tie.InvT-loop
 Inv-loop lines gates left-0 left-1 end vector₀ caught₀ next₀ vector caught next =
-    (end ≡ 2 ^ lines) × ((next ≤ end) × ((caught ≡ score (gatesOf gates) (leftOf lines (gatesOf gates) left-0 left-1) vector)
+    (end ≡ 2 ^ lines) × (next ≤ end) × (caught ≡ score (gatesOf gates) (leftOf lines (gatesOf gates) left-0 left-1) vector)
     × (best lines (gatesOf gates) (leftOf lines (gatesOf gates) left-0 left-1)
-    ≡ bestOf (gatesOf gates) (leftOf lines (gatesOf gates) left-0 left-1) vector (upFrom next (2 ^ lines - next)))))
+    ≡ bestOf (gatesOf gates) (leftOf lines (gatesOf gates) left-0 left-1) vector (upFrom next (2 ^ lines - next)))
 
 abbrev μ-loop : tie.MeasureT-loop
 μ-loop lines gates left-0 left-1 end vector₀ caught₀ next₀ vector caught next = end - next
@@ -34,7 +34,7 @@ loop-holds : tie.Need-loop-holds Inv-loop μ-loop
 loop-holds c =
     let a = c .before .before .args in
     let all = one-shl (a .lines) (omega arith) in
-    (all, (rw all (pow-pos (a .lines)), (c .score .ensures, best-begin (gatesOf (a .gates .now)) _ (a .lines))))
+    (all, rw all (pow-pos (a .lines)), c .score .ensures, best-begin (gatesOf (a .gates .now)) _ (a .lines))
 
 score-requires-2 : tie.Need-score-requires-2 Inv-loop μ-loop
 score-requires-2 c κs = (search needs, (search needs, omega arith))
@@ -55,26 +55,23 @@ loop-again c =
     let fs = leftOf (a .lines) gs (a .left-0 .now) (a .left-1 .now) in
     let next = l .loop .next in
     let asked = scored .score2 .ensures in
-    let before = l .loop .inv .1 .1 .0 in
-    let best-before = l .loop .inv .1 .1 .1 in
+    let before = l .loop .inv .2 in
+    let best-before = l .loop .inv .3 in
     let less : next < 2 ^ a .lines = omega arith in
-    let from : ℕ → ℕ = λ v. bestOf gs fs v (upFrom (next + 1) (2 ^ a .lines - (next + 1))) in (
+    let from : ℕ → ℕ = λ v. bestOf gs fs v (upFrom (next + 1) (2 ^ a .lines - (next + 1))) in
+    ⊎-elim
+    (λ w. (
       l .loop .inv .0,
-      (
-        omega arith,
-        ⊎-elim
-            (λ w. (
-              w .2 ∙ asked ∙ ap (score gs fs) (sym (w .1)),
-              best-before ∙ best-higher gs fs (l .loop .vector) next (2 ^ a .lines) less (rw (← before, ← asked) (w .0 .taken))
-                  ∙ ap from (sym (w .1)),
-            ))
-            (λ w. (
-              w .2 ∙ before ∙ ap (score gs fs) (sym (w .1)),
-              best-before ∙ best-kept gs fs (l .loop .vector) next (2 ^ a .lines) less (rw (← before, ← asked) (w .0 .left))
-                  ∙ ap from (sym (w .1)),
-            )) (c .if1 .came),
-      ),
-    )
+      omega arith,
+      w .2 ∙ asked ∙ ap (score gs fs) (sym (w .1)),
+      best-before ∙ best-higher gs fs (l .loop .vector) next (2 ^ a .lines) less (rw (← before, ← asked) (w .0 .taken)) ∙ ap from (sym (w .1)),
+    ))
+    (λ w. (
+      l .loop .inv .0,
+      omega arith,
+      w .2 ∙ before ∙ ap (score gs fs) (sym (w .1)),
+      best-before ∙ best-kept gs fs (l .loop .vector) next (2 ^ a .lines) less (rw (← before, ← asked) (w .0 .left)) ∙ ap from (sym (w .1)),
+    )) (c .if1 .came)
 
 returns : tie.Need-returns Inv-loop μ-loop
 returns c =
@@ -82,8 +79,8 @@ returns c =
     let a = l .before .before .before .args in
     let gs = gatesOf (a .gates .now) in
     let fs = leftOf (a .lines) gs (a .left-0 .now) (a .left-1 .now) in
-    let score-is = l .loop .inv .1 .1 .0 in
-    let best-is = l .loop .inv .1 .1 .1 in
+    let score-is = l .loop .inv .2 in
+    let best-is = l .loop .inv .3 in
     (sym (best-is ∙ best-end gs fs (l .loop .vector) (l .loop .next) (2 ^ a .lines) (omega arith)), score-is)
 
 pub best-spec : {M : Type 1} → statement M

@@ -14,8 +14,8 @@ use Rattle.testsets.proofs.left.all_sites.Tie as tie
 
 abbrev Inv-loop : tie.InvT-loop
 Inv-loop lines gates end left₀ i₀ left i =
-    (end ≡ length (gatesOf gates) + 1) × ((i ≤ end)
-    × ((length left₀ ≡ levels) × Changed (λ k w. sites lines (gatesOf gates) k) i left₀ left))
+    (end ≡ length (gatesOf gates) + 1) × (i ≤ end)
+    × (length left₀ ≡ levels) × Changed (λ k w. sites lines (gatesOf gates) k) i left₀ left
 
 abbrev μ-loop : tie.MeasureT-loop
 μ-loop lines gates end left₀ i₀ left i = end - i
@@ -26,7 +26,7 @@ add-end c = omega arith
 loop-holds : tie.Need-loop-holds Inv-loop μ-loop
 loop-holds c =
     let long : length (replicate {A = ℕ} levels 0) ≡ levels = length-replicate {A = ℕ} levels 0 in
-    (omega (arith, gates-count (c .before .args .gates .now)), (omega arith, (long, changed-none _ _)))
+    (omega (arith, gates-count (c .before .args .gates .now)), omega arith, long, changed-none _ _)
 
 level-requires : tie.Need-level-requires Inv-loop μ-loop
 level-requires c κs = search needs
@@ -53,19 +53,13 @@ loop-again c =
     let a = l .before .before .args in
     let i = l .loop .i in
     let word = c .sites-at .ensures ∙ ap (sites (a .lines) (gatesOf (a .gates .now))) (leveled .level .ensures) in
-    let long = l .loop .inv .1 .1 .0 in
-    let changed = l .loop .inv .1 .1 .1 in (
-      l .loop .inv .0,
-      (
-        omega arith,
-        (long, changed-more _ _ (l .loop .left) i i _ refl (omega (arith, changed .long)) changed word),
-      ),
-    )
+    let (all, seen, long, changed) = l .loop .inv in
+    (all, omega arith, long, changed-more _ _ (l .loop .left) i i _ refl (omega (arith, changed .long)) changed word)
 
 returns : tie.Need-returns Inv-loop μ-loop
 returns c =
     let l = c .before in
-    let changed = l .loop .inv .1 .1 .1 in
+    let changed = l .loop .inv .3 in
     record { wide = omega (arith, changed .long); every = λ k h. changed .done k (omega arith) }
 
 pub all-sites-spec : {M : Type 1} → statement M

@@ -19,14 +19,24 @@ use Rattle.testsets.proofs.left.drop_caught.Tie as tie
 abbrev Inv-loop : tie.InvT-loop
 Inv-loop lines gates left-0₀ left-1₀ vector end state₀ i₀ left-0 left-1 state i =
     AtLevel gates vector end state i
-    × (Changed (λ k w. lacking w (forward (gatesOf gates) k vector)) i left-0₀ left-0
-    × Changed (λ k w. bitAnd w (forward (gatesOf gates) k vector)) i left-1₀ left-1)
+    × Changed (λ k w. lacking w (forward (gatesOf gates) k vector)) i left-0₀ left-0
+    × Changed (λ k w. bitAnd w (forward (gatesOf gates) k vector)) i left-1₀ left-1
 
 abbrev μ-loop : tie.MeasureT-loop
 μ-loop lines gates left-0₀ left-1₀ vector end state₀ i₀ left-0 left-1 state i = end - i
 
+-- places in the code, each from a later one
+abbrev entry : tie.At-loop Inv-loop μ-loop → tie.Start Inv-loop μ-loop
+entry c = c .before .before
+
+abbrev leveling : tie.After-drop-level Inv-loop μ-loop → tie.After-level Inv-loop μ-loop
+leveling c = c .before .before .before
+
+abbrev ending : tie.After-drop-level-arg4 Inv-loop μ-loop → tie.At-loop Inv-loop μ-loop
+ending c = c .before .before .before
+
 loop-holds : tie.Need-loop-holds Inv-loop μ-loop
-loop-holds c = let a = c .before .args in (level-first (a .gates .now) (a .vector), (changed-none _ _, changed-none _ _))
+loop-holds c = let a = c .before .args in (level-first (a .gates .now) (a .vector), changed-none _ _, changed-none _ _)
 
 level-requires : tie.Need-level-requires Inv-loop μ-loop
 level-requires c κs = search needs
@@ -42,9 +52,9 @@ gate-at-requires c κs = omega arith
 
 step-requires : tie.Need-step-requires Inv-loop μ-loop
 step-requires c κs =
-    let leveled = c .before .before .before .before .before in
+    let leveled = leveling (c .before .before) in
     let l = leveled .before .before in
-    let start = l .before .before in
+    let start = entry l in
     let a = start .args in
     level-target (a .lines) (a .gates .now) (start .pre .0) (a .vector) _ (l .loop .state) (l .loop .i) (l .loop .inv .0)
     (leveled .before .loop-test .taken) (c .gate-at .result) (c .before .gate-after .result .0) (c .gate-at .ensures) (omega arith)
@@ -58,27 +68,23 @@ loop-less c = omega arith
 loop-again : tie.Need-loop-again Inv-loop μ-loop
 loop-again c =
     let dropped = c .before .before .before in
-    let leveled = dropped .before .before .before in
+    let leveled = leveling dropped in
     let l = leveled .before .before in
-    let start = l .before .before in
+    let start = entry l in
     let a = start .args in
     let i = l .loop .i in
     let k = leveled .level .result .0 in
-    let here = l .loop .inv .0 in
-    let zeros = l .loop .inv .1 .0 in
-    let ones = l .loop .inv .1 .1 in
+    let (here, zeros, ones) = l .loop .inv in
     let on : Left (a .lines) (gatesOf (a .gates .now)) (a .left-0 .now) (a .left-1 .now) = start .pre .1 in
     let long-0 : i < length (l .loop .left-0) = omega (arith, on .at-0 .wide, zeros .long) in
     let long-1 : i < length (l .loop .left-1) = omega (arith, on .at-1 .wide, ones .long) in (
       rw (c .step .ensures) (level-next (a .lines) (a .gates .now) (start .pre .0) (a .vector) _ (l .loop .state) i here
           (leveled .before .loop-test .taken) (c .before .gate-at .result) (c .before .before .gate-after .result .0) (c .before .gate-at .ensures)
           (omega arith)),
-      (
-        rw (dropped .drop-level .ensures .0) (changed-more _ (a .left-0 .now) (l .loop .left-0) i k _ (leveled .level .ensures) long-0 zeros
-            (ap (lacking (getD (l .loop .left-0) k 0)) (here .state-is))),
-        rw (dropped .drop-level .ensures .1) (changed-more _ (a .left-1 .now) (l .loop .left-1) i k _ (leveled .level .ensures) long-1 ones
-            (ap (bitAnd (getD (l .loop .left-1) k 0)) (here .state-is))),
-      ),
+      rw (dropped .drop-level .ensures .0) (changed-more _ (a .left-0 .now) (l .loop .left-0) i k _ (leveled .level .ensures) long-0 zeros
+          (ap (lacking (getD (l .loop .left-0) k 0)) (here .state-is))),
+      rw (dropped .drop-level .ensures .1) (changed-more _ (a .left-1 .now) (l .loop .left-1) i k _ (leveled .level .ensures) long-1 ones
+          (ap (bitAnd (getD (l .loop .left-1) k 0)) (here .state-is))),
     )
 
 level-requires-2 : tie.Need-level-requires-2 Inv-loop μ-loop
@@ -90,14 +96,12 @@ drop-level-requires-2 c κs = omega arith
 returns : tie.Need-returns Inv-loop μ-loop
 returns c =
     let leveled = c .before in
-    let l = leveled .before .before .before .before in
-    let start = l .before .before in
+    let l = ending (leveled .before) in
+    let start = entry l in
     let a = start .args in
     let gs = gatesOf (a .gates .now) in
     let i = l .loop .i in
-    let here = l .loop .inv .0 in
-    let zeros = l .loop .inv .1 .0 in
-    let ones = l .loop .inv .1 .1 in
+    let (here, zeros, ones) = l .loop .inv in
     let ok = start .pre .0 .gates-ok in
     let on : Left (a .lines) gs (a .left-0 .now) (a .left-1 .now) = start .pre .1 in
     let long-0 : i < length (l .loop .left-0) = omega (arith, on .at-0 .wide, zeros .long) in

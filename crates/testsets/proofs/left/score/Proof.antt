@@ -1,6 +1,6 @@
 -- `testsets::left::score` meets its contract: each turn adds what the vector catches at one level and goes one level up, and the last level
 -- comes after the loop. Assumes nothing.
-use Prim.Native.Nat.{_+_, _-_, _*_, _≤_}
+use Prim.Native.Nat.{_+_, _-_, _*_, _^_, _<_, _≤_}
 use mathlib.Core.Path.{_≡_}
 use native.Mathlib.Omega.{arith}
 use borrow.Author.Needs.{needs}
@@ -16,11 +16,14 @@ use Rattle.testsets.proofs.left.score.Tie as tie
 
 abbrev Inv-loop : tie.InvT-loop
 Inv-loop lines gates left-0 left-1 vector ones last sum₀ state₀ i₀ sum state i =
-    AtLevel gates vector last state i × ((sum ≤ mostLines * i)
-    × (score (gatesOf gates) (leftOf lines (gatesOf gates) left-0 left-1) vector ≡ sum + caughtFrom lines (gatesOf gates) left-0 left-1 vector i))
+    AtLevel gates vector last state i × (sum ≤ mostLines * i)
+    × (score (gatesOf gates) (leftOf lines (gatesOf gates) left-0 left-1) vector ≡ sum + caughtFrom lines (gatesOf gates) left-0 left-1 vector i)
 
 abbrev μ-loop : tie.MeasureT-loop
 μ-loop lines gates left-0 left-1 vector ones last sum₀ state₀ i₀ sum state i = last - i
+
+is-input : (c : tie.Start Inv-loop μ-loop) → c .args .vector < 2 ^ c .args .lines
+is-input c = c .pre .1 .1
 
 all-ones-requires : tie.Need-all-ones-requires Inv-loop μ-loop
 all-ones-requires c κs = omega arith
@@ -31,7 +34,7 @@ loop-holds c =
     let a = start .args in
     let all = score-all (a .lines) (gatesOf (a .gates .now)) (start .pre .0 .gates-ok) (a .left-0 .now) (a .left-1 .now) (start .pre .1 .0)
     (a .vector) in
-    (level-first (a .gates .now) (a .vector), (omega arith, omega (arith, all)))
+    (level-first (a .gates .now) (a .vector), omega arith, omega (arith, all))
 
 level-requires : tie.Need-level-requires Inv-loop μ-loop
 level-requires c κs = search needs
@@ -80,12 +83,13 @@ loop-again c =
     let here = l .loop .inv .0 in
     let few : counted .newly .result ≤ mostLines = rw (counted .newly .ensures) (length-lines-le mostLines _) in
     let more = score-more (a .lines) (gatesOf (a .gates .now)) (ok .gates-ok) (a .left-0 .now) (a .left-1 .now) (a .vector) i
-    (leveled .level .result .0) (l .loop .state) _ (ok .lines-fit) (start .pre .1 .1) (omega arith) (leveled .level .ensures) ones
+    (leveled .level .result .0) (l .loop .state) _ (ok .lines-fit) (is-input start) (omega arith) (leveled .level .ensures) ones
     (here .state-is) in (
       rw (c .step .ensures) (level-next (a .lines) (a .gates .now) ok (a .vector) _ (l .loop .state) i here
           (turn .loop-test .taken) (c .before .gate-at .result) (c .before .before .gate-after .result .0) (c .before .gate-at .ensures)
           (omega arith)),
-      (omega arith, omega (arith, more, counted .newly .ensures)),
+      omega arith,
+      omega (arith, more, counted .newly .ensures),
     )
 
 level-requires-2 : tie.Need-level-requires-2 Inv-loop μ-loop
@@ -109,7 +113,7 @@ returns c =
     let ok = start .pre .0 in
     let here = l .loop .inv .0 in
     let last = score-last (a .lines) (gatesOf (a .gates .now)) (ok .gates-ok) (a .left-0 .now) (a .left-1 .now) (a .vector) (l .loop .i)
-    (leveled .level2 .result .0) (l .loop .state) _ (ok .lines-fit) (start .pre .1 .1) (omega arith) (omega arith) ones
+    (leveled .level2 .result .0) (l .loop .state) _ (ok .lines-fit) (is-input start) (omega arith) (omega arith) ones
     (here .state-is) (omega arith) in
     omega (arith, last, c .newly2 .ensures)
 

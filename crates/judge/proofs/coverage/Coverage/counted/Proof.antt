@@ -6,12 +6,19 @@ use borrow.Author.Needs.{needs}
 use Rattle.judge.proofs.coverage.Coverage.counted.Statement.{statement}
 use Rattle.judge.proofs.coverage.Coverage.counted.Tie as tie
 
+-- places in the code, each from a later one
+abbrev entry : tie.Else2 → tie.Start
+entry c = c .before .before .before
+
+abbrev counting : tie.After-tally-levels-arg2 → tie.Then1
+counting c = c .before .before .before
+
 tally-levels-requires : tie.Need-tally-levels-requires
 tally-levels-requires c κs = search needs
 
 returns : tie.Need-returns
 returns c =
-    let asked = c .before .before .before .before in
+    let asked = counting (c .before) in
     let a = asked .before .before .args in
     c .tally-levels .ensures ∙ rw (asked .if1 .taken) (sym (verdict-levels (a .lines) (gatesOf (a .gates .now)) (a .t1)))
 
@@ -30,7 +37,7 @@ tally-gates-requires-2 c κs = search needs
 returns-3 : tie.Need-returns-3
 returns-3 c =
     let asked = c .before .before .before in
-    let a = asked .before .before .before .before .args in
+    let a = entry (asked .before) .args in
     c .tally-gates2 .ensures ∙ rw (asked .if3 .taken) (sym (verdict-controls (a .lines) (gatesOf (a .gates .now)) (a .t1)))
 
 tally-gates-requires-3 : tie.Need-tally-gates-requires-3
@@ -39,7 +46,7 @@ tally-gates-requires-3 c κs = search needs
 returns-4 : tie.Need-returns-4
 returns-4 c =
     let asked = c .before .before .before in
-    let a = asked .before .before .before .before .before .args in
+    let a = entry (asked .before .before) .args in
     c .tally-gates3 .ensures ∙ rw (asked .if4 .taken) (sym (verdict-extras (a .lines) (gatesOf (a .gates .now)) (a .t1)))
 
 returns-5 : tie.Need-returns-5
