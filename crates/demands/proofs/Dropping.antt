@@ -119,20 +119,20 @@ drops-plain n words x list exit unbroken made =
 
 pub drop-means : Answers drop.Post (λ κs. toldDropped)
     (λ κs (lines, (gates, (vector, (list, _)))) values (_, (_, (_, (list-after, _)))).
-        DropsPlain lines (now gates) vector (now list) values (now list-after))
+    DropsPlain lines (now gates) vector (now list) values (now list-after))
 drop-means = means refusing.drop-refuses _ (λ κs a r e p. p .0) (λ κs a r e p u. drops-plain _ _ _ _ _ u (p .1))
 
 pub drop-in-c : AnswersInC c-drop.Post (λ κs r. r .number) (λ κs r. r .count ∷ [])
     (λ κs (lines, (gates, (vector, (list, _)))) values (_, (_, (_, (list-after, _)))).
-        DropsPlain lines (now gates) vector (now list) values (now list-after))
+    DropsPlain lines (now gates) vector (now list) values (now list-after))
 drop-in-c = means-in-c 1 refusing-in-c.drop-refuses _ (λ κs a r e p. p .0) (λ κs a r e p u. drops-plain _ _ _ _ _ u (p .1))
 
 pub drop-records-means : Answers drop-records.Post (λ κs. toldDropped)
     (λ κs (lines, (gates, (vector, (list, _)))) values (_, (_, (_, (list-after, _)))).
-        Drops lines (now gates) vector (now list) values (now list-after))
+    Drops lines (now gates) vector (now list) values (now list-after))
 drop-records-means = means refusing.drop-records-refuses _ (λ κs a r e p. p .0) (λ κs a r e p u. drops-records _ _ _ _ _ u (p .1))
 
 pub drop-records-in-c : AnswersInC c-drop-records.Post (λ κs r. r .number) (λ κs r. r .count ∷ [])
     (λ κs (lines, (gates, (vector, (list, _)))) values (_, (_, (_, (list-after, _)))).
-        Drops lines (now gates) vector (now list) values (now list-after))
+    Drops lines (now gates) vector (now list) values (now list-after))
 drop-records-in-c = means-in-c 1 refusing-in-c.drop-records-refuses _ (λ κs a r e p. p .0) (λ κs a r e p u. drops-records _ _ _ _ _ u (p .1))

@@ -191,20 +191,20 @@ module _ (bytes : List ℕ) where
 
 pub read-job-means : Answers read-job.Post (λ κs. toldRead)
     (λ κs (bytes, (gates, (vectors, _))) values (_, (gates-after, (vectors-after, _))).
-        ReadsOut (now bytes) (now gates) (now vectors) values (now gates-after) (now vectors-after))
+    ReadsOut (now bytes) (now gates) (now vectors) values (now gates-after) (now vectors-after))
 read-job-means = means refusing.read-job-refuses _ (λ κs a r e p. p .0) (λ κs a r e p u. reads-out _ _ _ _ _ u (p .1 .0) (p .1 .1))
 
 pub read-job-in-c : AnswersInC c-read-job.Post (λ κs r. r .number) (λ κs r. r .lines ∷ r .classes ∷ r .gates ∷ r .vectors ∷ [])
     (λ κs (bytes, (gates, (vectors, _))) values (_, (gates-after, (vectors-after, _))).
-        ReadsOut (now bytes) (now gates) (now vectors) values (now gates-after) (now vectors-after))
+    ReadsOut (now bytes) (now gates) (now vectors) values (now gates-after) (now vectors-after))
 read-job-in-c = means-in-c 4 refusing-in-c.read-job-refuses _ (λ κs a r e p. p .0) (λ κs a r e p u. reads-out _ _ _ _ _ u (p .1 .0) (p .1 .1))
 
 pub write-job-means : Answers write-job.Post (λ κs. toldWritten)
     (λ κs (lines, (classes, (gates, (vectors, (out, _))))) values (_, (_, (_, (_, (out-after, _))))).
-        Writes lines classes (now gates) (now vectors) (now out) values (now out-after))
+    Writes lines classes (now gates) (now vectors) (now out) values (now out-after))
 write-job-means = means refusing.write-job-refuses _ (λ κs a r e p. p .0) (λ κs a r e p u. writes _ _ _ _ _ _ u (p .1))
 
 pub write-job-in-c : AnswersInC c-write-job.Post (λ κs r. r .number) (λ κs r. r .count ∷ [])
     (λ κs (lines, (classes, (gates, (vectors, (out, _))))) values (_, (_, (_, (_, (out-after, _))))).
-        Writes lines classes (now gates) (now vectors) (now out) values (now out-after))
+    Writes lines classes (now gates) (now vectors) (now out) values (now out-after))
 write-job-in-c = means-in-c 1 refusing-in-c.write-job-refuses _ (λ κs a r e p. p .0) (λ κs a r e p u. writes _ _ _ _ _ _ u (p .1))

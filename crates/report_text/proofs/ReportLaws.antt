@@ -1,5 +1,5 @@
 -- Laws of the whole report: its text in parts, and what bytes that are read say of it.
-use Prim.Native.Nat.{ℕ, _+_, _*_, _/_, _^_, _<_, _≤_}
+use Prim.Native.Nat.{ℕ, _+_, _*_, _/_, _<_, _≤_}
 use mathlib.Core.Path.{_≡_, refl, ap, sym, _∙_}
 use mathlib.Core.Bool.{false}
 use mathlib.Core.List.{List, [], _∷_, _++_, append-assoc, append-nil}
@@ -7,7 +7,7 @@ use native.Mathlib.Omega.{arith}
 use lib.ListN.{length, take, replicate}
 use lib.Seq.{sets, take-append-seam, length-sets}
 use borrow.Author.Tests.{lt-ltb, le-ltb}
-use Rattle.basics.specs.Lists.{All, each}
+use Rattle.basics.specs.Lists.{each}
 use Rattle.refusals.specs.Tables.{Row, Told, firstOf}
 use Rattle.refusals.specs.Tables.Told.{answered, refused}
 use Rattle.refusals.specs.Checks.{fine}
@@ -105,9 +105,9 @@ job-read r bytes oldGates oldVectors gates vectors n k d m is promise p q =
 
 module _ (bytes gates vectors : List ℕ) (n k d m : ℕ) (w : JobRead bytes gates vectors n k d m) where
   -- it breaks no rule of the judge
-  pub job-sound : Sound n (take (3 * d) gates) × (All (λ x. x < 2 ^ n) (take m vectors) × (length (take m vectors) ≤ mostVectors))
+  pub job-sound : Sound n (take (3 * d) gates) × (length (take m vectors) ≤ mostVectors)
   job-sound = let ok = job-set bytes (w .passed) in
-      rw (w .lines-are, w .gates-are, w .vectors-are) (ok .set .circuit, (ok .vectors, ok .set .vectors-fit))
+      rw (w .lines-are, w .gates-are, w .vectors-are) (ok .set .circuit, ok .set .vectors-fit)
 
   pub job-text : jobText n k (take (3 * d) gates) (take m vectors) ≡ reportText bytes
   job-text = rw (w .lines-are, w .classes-are, w .gates-are, w .vectors-are) (report-job bytes (w .passed))

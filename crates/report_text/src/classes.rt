@@ -1,9 +1,8 @@
 // The lines of the classes wanted.
 ghost use mathlib.Core.Path.{_≡_};
-ghost use Prim.Native.Nat.{_+_, _^_, _<_, _≤_};
+ghost use Prim.Native.Nat.{_+_, _≤_};
 ghost use lib.ListN.{length};
 ghost use lib.Seq.{sets};
-ghost use Rattle.basics.specs.Lists.{All};
 ghost use Rattle.circuit.specs.Gates.{gatesOf};
 ghost use Rattle.circuit.specs.Sound.{Sound};
 ghost use Rattle.report_text.specs.Report.{letterOf, classLines};
@@ -88,7 +87,7 @@ fn put_wanted(
     class: u32,
 ) -> usize
     requires { ⌜ Sound lines (now gates) ⌝ }
-    requires { ⌜ (1 ≤ class) × ((class ≤ 4) × All (λ x. x < 2 ^ lines) (now vectors)) ⌝ }
+    requires { ⌜ (1 ≤ class) × (class ≤ 4) ⌝ }
     requires { ⌜ at + length (wantedText lines (gatesOf (now gates)) (now vectors) classes class) ≤ length (now out) ⌝ }
     ensures { λ r. ⌜ (r ≡ at + length (wantedText lines (gatesOf (now (gates .entry))) (now (vectors .entry)) classes class))
         × (now (out .exit) ≡ sets (now (out .entry)) at (wantedText lines (gatesOf (now (gates .entry))) (now (vectors .entry)) classes class)) ⌝ }
@@ -109,7 +108,6 @@ pub fn put_classes(
     classes: u32,
 ) -> usize
     requires { ⌜ Sound lines (now gates) ⌝ }
-    requires { ⌜ All (λ x. x < 2 ^ lines) (now vectors) ⌝ }
     requires { ⌜ at + length (classLines lines classes (now gates) (now vectors)) ≤ length (now out) ⌝ }
     ensures { λ r. ⌜ (r ≡ at + length (classLines lines classes (now (gates .entry)) (now (vectors .entry))))
         × (now (out .exit) ≡ sets (now (out .entry)) at (classLines lines classes (now (gates .entry)) (now (vectors .entry)))) ⌝ }

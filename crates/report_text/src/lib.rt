@@ -1,9 +1,8 @@
 // The report: from any bytes to the text of their verdict.
 ghost use mathlib.Core.Path.{_≡_};
-ghost use Prim.Native.Nat.{_^_, _<_, _≤_};
+ghost use Prim.Native.Nat.{_≤_};
 ghost use lib.ListN.{length};
 ghost use lib.Seq.{sets};
-ghost use Rattle.basics.specs.Lists.{All};
 ghost use Rattle.circuit.specs.Limits.{mostVectors};
 ghost use Rattle.circuit.specs.Sound.{Sound};
 ghost use Rattle.report_text.specs.Report.{reportText, refusedText, jobText};
@@ -85,7 +84,7 @@ fn put_job(
     vectors: &[u32],
 ) -> usize
     requires { ⌜ Sound lines (now gates) ⌝ }
-    requires { ⌜ All (λ x. x < 2 ^ lines) (now vectors) × (length (now vectors) ≤ mostVectors) ⌝ }
+    requires { ⌜ length (now vectors) ≤ mostVectors ⌝ }
     ensures { λ r. ⌜ (r ≡ length (jobText lines classes (now (gates .entry)) (now (vectors .entry))))
         × (now (text .exit) ≡ sets (now (text .entry)) 0 (jobText lines classes (now (gates .entry)) (now (vectors .entry)))) ⌝ }
 {

@@ -29,7 +29,7 @@ rest c = classLines (c .args .lines) (c .args .classes) (c .args .gates .now) (c
 fits : (c : tie.Start) → length (front c) + length (rest c) ≤ longestReport
 fits c =
     let parts = job-parts (c .args .lines) (c .args .classes) (c .args .gates .now) (c .args .vectors .now) in
-    let whole = job-fits (c .args .lines) (c .args .classes) (c .args .gates .now) (c .args .vectors .now) (c .pre .0) (c .pre .1 .1) in
+    let whole = job-fits (c .args .lines) (c .args .classes) (c .args .gates .now) (c .args .vectors .now) (c .pre .0) (c .pre .1) in
     omega arith
 
 -- the first has been put
@@ -55,7 +55,7 @@ put-line-requires c κs = let a = entry c .args in room-as 0 _ (job-line (a .lin
 put-classes-requires : tie.Need-put-classes-requires
 put-classes-requires c κs =
     let s = entry (c .before .before) in
-    (s .pre .0, (s .pre .1 .0, omega (arith, fits s, lined (c .before) .0, c .before .put-line .kept .0)))
+    (s .pre .0, omega (arith, fits s, lined (c .before) .0, c .before .put-line .kept .0))
 
 returns : tie.Need-returns
 returns c =

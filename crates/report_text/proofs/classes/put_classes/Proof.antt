@@ -42,7 +42,7 @@ put-wanted-requires c κs =
     let l = c .before .before .loop in
     let w = turn-room (a .args .lines) (gatesOf (a .args .gates .now)) (a .args .vectors .now) (a .args .classes)
     (l .class) (l .end) _ (omega arith) refl in
-    (a .pre .0, ((l .inv .0, (omega arith, a .pre .1 .0)), omega arith))
+    (a .pre .0, ((l .inv .0, omega arith), omega arith))
 
 add-class : tie.Need-add-class Inv-loop μ-loop
 add-class c = omega arith
