@@ -1,5 +1,4 @@
 -- Where two rules are broken by one job, the earlier is told: by number, but 10 last of all. Every pair that a job can have.
-use Prim.Native.Nat.{ℕ}
 use mathlib.Core.List.{List, [], _∷_, _++_}
 use lib.ListN.{replicate, take}
 use Rattle.refusals.specs.Tables.Told.{refused}
