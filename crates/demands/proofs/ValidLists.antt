@@ -63,7 +63,7 @@ all-iff h ys = (all-map (λ a. h a .0) ys, all-map (λ a. h a .1) ys)
 
 -- ---- dropping
 
-record-valid : (n : ℕ) (gs : List Gate) (f : Fault) → (badRecord n gs f ≡ false) ↔ Has n gs f
+pub record-valid : (n : ℕ) (gs : List Gate) (f : Fault) → (badRecord n gs f ≡ false) ↔ Has n gs f
 unfolding badRecord
 record-valid n gs f = (λ e. has-of n gs f (not-false _ e), λ h. ap not (of-has n gs f h))
 
@@ -95,7 +95,7 @@ module _ (n : ℕ) (words : List ℕ) (x : ℕ) where
 
 -- ---- a multiple fault
 
-entry-valid : (n : ℕ) (gs : List Gate) (f : Fault) → (badEntry n gs f ≡ false) ↔ ((f .class ≡ 1) × Has n gs f)
+pub entry-valid : (n : ℕ) (gs : List Gate) (f : Fault) → (badEntry n gs f ≡ false) ↔ ((f .class ≡ 1) × Has n gs f)
 unfolding badEntry
 entry-valid n gs f = (
   λ e.

@@ -21,12 +21,18 @@ use Rattle.refusals.proofs.FirstPlaces.{FirstAt, in-words, place-told, none-tol
 pub same-iff : (a b : ℕ) → (not (eqb a b) ≡ false) ↔ (a ≡ b)
 same-iff a b = (λ e. eqb-true a b (not-false (eqb a b) e), λ e. ap not (eq-eqb a b e))
 
--- a test that fails, and one that passes
-pub fails : (b : Bool) → (not b ≡ true) ↔ (b ≡ false)
-fails b = (not-true b, λ e. ap not e)
+-- a test that fails, by what it means that it passes, and the other way round
+pub failing : (b : Bool) {P : Type 0} → ((b ≡ true) ↔ P) → (b ≡ false) ↔ (P → ⊥)
+failing b means = (
+  λ e p. false≢true (sym e ∙ means .1 p),
+  λ none. by-test b (λ t. absurd (none (means .0 t))) (λ t. t),
+)
 
-pub passes : (b : Bool) → (not b ≡ false) ↔ (b ≡ true)
-passes b = (not-false b, λ e. ap not e)
+pub passing : (b : Bool) {P : Type 0} → ((b ≡ false) ↔ P) → (b ≡ true) ↔ (P → ⊥)
+passing b means = (
+  λ e p. false≢true (sym (means .1 p) ∙ e),
+  λ none. by-test b (λ t. t) (λ t. absurd (none (means .0 t))),
+)
 
 -- one of two tests passes, and both fail
 pub either : (a b : Bool) {P Q : Type 0} → ((a ≡ true) ↔ P) → ((b ≡ true) ↔ Q) → (a || b ≡ true) ↔ (P ⊎ Q)

@@ -13,7 +13,7 @@ use Rattle.basics.proofs.Tests.{by-test, and-both, and-true, or-left, or-right}
 use Rattle.faults.specs.Records.{noFault}
 use Rattle.faults.specs.Multiple.{sameSite, siteTwice}
 use Rattle.faults.specs.declared.Fault.{Fault}
-use Rattle.demands.proofs.PlacesLaws.{Words, InWords, OfOne, of-one, either, neither}
+use Rattle.demands.proofs.RuleWords.{Words, InWords, OfOne, of-one, either, neither}
 
 -- some entry passes a test: at a position of the list, counted from 0
 module _ {ℓ} {A : Type ℓ} (test : A → Bool) (blank : A) where
