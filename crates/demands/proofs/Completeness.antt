@@ -1,7 +1,8 @@
 -- What a verdict says of a set: complete exactly if every fault of the class is caught by some vector, and else the first that none catches.
 use Prim.Native.Nat.{ℕ}
 use mathlib.Core.Path.{_≡_, refl, sym, subst}
-use mathlib.Core.Logic.{_↔_}
+use mathlib.Core.Logic.{_↔_, _⊎_}
+use mathlib.Core.Logic._⊎_.{inl, inr}
 use mathlib.Core.List.{List, [], _∷_, _++_, List·Memᴰ, List·Memᴰ·head, List·Memᴰ·tail, Memᴰ·append-right}
 use native.Mathlib.Omega.{arith}
 use lib.ListN.{length}
@@ -26,7 +27,7 @@ pub record FirstUncaught (n : ℕ) (gs : List Gate) (class : ℕ) (xs : List ℕ
   pub by-none : CaughtByNone gs xs f
   pub earlier : (h : Fault) → h .class ≡ class → Has n gs h → Before h f → CaughtBySome gs xs h
 
--- of the faults of the class, `total` of them, `number` are caught by some vector, and each other by none
+-- of the faults of the class, `total` of them, `number` are caught by some vector, and each other by none; none is both: `apart`
 pub record Counted (n : ℕ) (gs : List Gate) (class : ℕ) (xs : List ℕ) (number total : ℕ) : Type 0 where
   pub faults : List Fault
   pub of-class : Class n gs class faults
@@ -63,13 +64,24 @@ module _ {n : ℕ} {words xs : List ℕ} {class : ℕ} {values : List ℕ} (w : 
   gs = w .gs
 
   -- caught by some and by none is never both
-  apart : (f : Fault) → Has n gs f → CaughtBySome gs xs f → CaughtByNone gs xs f → ⊥
+  pub apart : (f : Fault) → Has n gs f → CaughtBySome gs xs f → CaughtByNone gs xs f → ⊥
   apart f h c m = not-both n gs f h (c .0) (c .2) (all-entry (Missed gs f) (c .1) m)
 
   shown-in : (before : List Fault) (f : Fault) (later : List Fault) → w .faults ≡ before ++ (f ∷ later) → (f .class ≡ class) × Has n gs f
   shown-in before f later parts =
       all-entry (λ h. (h .class ≡ class) × Has n gs h)
       (subst (List·Memᴰ f) (sym parts) (Memᴰ·append-right before (List·Memᴰ·head refl))) (w .of-class .each-is)
+
+  -- two counts, and then 1 and four zeros, or 0 and a fault
+  pub only-told : (number : ℕ) × (total : ℕ) × ((values ≡ number ∷ total ∷ 1 ∷ 0 ∷ 0 ∷ 0 ∷ 0 ∷ [])
+      ⊎ ((f : Fault) × (values ≡ number ∷ total ∷ 0 ∷ f .class ∷ f .place ∷ f .line ∷ f .value ∷ [])))
+  only-told = (_, _, by-shown (w .verdict .shows))
+    where
+      by-shown : Shows (CaughtBySome gs xs) (CaughtByNone gs xs) (w .faults) (w .verdict .shown)
+          → (values ≡ length (w .verdict .caught) ∷ length (w .faults) ∷ 1 ∷ 0 ∷ 0 ∷ 0 ∷ 0 ∷ [])
+          ⊎ ((f : Fault) × (values ≡ length (w .verdict .caught) ∷ length (w .faults) ∷ 0 ∷ f .class ∷ f .place ∷ f .line ∷ f .value ∷ []))
+      by-shown (complete all shown) = let told = w .verdict .values-are in inl cc
+      by-shown (first before f later parts front none shown) = let told = w .verdict .values-are in inr (f, cc)
 
   -- complete exactly if all are caught
   pub complete-means : (number total flag : ℕ) (rest : List ℕ) → values ≡ number ∷ total ∷ flag ∷ rest → (flag ≡ 1) ↔ EveryCaught n gs class xs

@@ -1,7 +1,8 @@
 -- The condition of each class: what a vector must give at the fault's level for it to be told that it catches the fault.
 use Prim.Native.Nat.{ℕ, _-_, _≤_}
 use mathlib.Core.Path.{_≡_, sym, _∙_, subst}
-use mathlib.Core.Logic.{_↔_, _≢_, Iff·rfl, Iff·trans, Iff·and}
+use mathlib.Core.Logic.{_↔_, _≢_, _⊎_, Iff·rfl, Iff·trans, Iff·and}
+use mathlib.Core.Logic._⊎_.{inl, inr}
 use mathlib.Core.Bool.{true, true≢false}
 use mathlib.Core.List.{List, [], _∷_}
 use native.Mathlib.Omega.{arith}
@@ -43,6 +44,11 @@ pub record Conditions (gs : List Gate) (f : Fault) (x : ℕ) (values : List ℕ)
 told-1 : {First Second : Type 0} {values : List ℕ} → Says First Second values → (First → Second → ⊥) → (values ≡ 1 ∷ []) ↔ First
 told-1 (says-1 h e) apart = (λ t. h, λ k. e)
 told-1 (says-0 h e) apart = (λ t. let z : _≡_ {A = ℕ} 0 1 = cc in absurd (omega arith), λ k. absurd (apart k h))
+
+-- nothing but 1 and 0 is told
+pub one-or-zero : {First Second : Type 0} {values : List ℕ} → Says First Second values → (values ≡ 1 ∷ []) ⊎ (values ≡ 0 ∷ [])
+one-or-zero (says-1 h e) = inl e
+one-or-zero (says-0 h e) = inr e
 
 -- never both
 pub not-both : (n : ℕ) (gs : List Gate) (f : Fault) → Has n gs f → (x : ℕ) → Caught gs f x → Missed gs f x → ⊥

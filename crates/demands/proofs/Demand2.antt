@@ -4,7 +4,7 @@
 -- `Machine` and `FaultLists`; here stand the sentences of the demand that follow.
 use Prim.Native.Nat.{ℕ, suc, _-_, _/_, _%_, _^_, _≤_}
 use mathlib.Core.Path.{_≡_, refl, ap, subst}
-use mathlib.Core.Logic.{_↔_}
+use mathlib.Core.Logic.{_↔_, _⊎_}
 use mathlib.Core.List.{List, [], _∷_}
 use native.Mathlib.Omega.{arith}
 use lib.ListN.{length}
@@ -32,18 +32,18 @@ use Rattle.nufsadeem.proofs.nuf_catches.Reads as c-catches
 use Rattle.nufsadeem.proofs.nuf_catches_multiple.Reads as c-catches-multiple
 use Rattle.nufsadeem.proofs.judging.nuf_judge.Reads as c-judge
 use Rattle.nufsadeem.proofs.judging.nuf_cover.Reads as c-cover
-use Rattle.demands.proofs.Machine.{Control, Makes, gate, Circuit, Caught, CaughtTogether, records}
+use Rattle.demands.proofs.Machine.{Control, Makes, gate, Circuit, Caught, CaughtTogether, Has, records, Multiple}
 use Rattle.demands.proofs.Answering.{Answers, Ended}
 use Rattle.demands.proofs.InC.{toldBy, tells-answer, told-in-c, AnswersInC}
-use Rattle.demands.proofs.Runs.{RunsForward, forward-means, level-none, level-more, back-again, forth-again}
+use Rattle.demands.proofs.Runs.{RunsForward, forward-means, forward-in-c, level-none, level-more, back-again, forth-again}
 use Rattle.demands.proofs.Catching.{TellsCaught, TellsCaughtTogether, catches-means, catches-in-c}
 use Rattle.demands.proofs.Catching.{catches-multiple-means, catches-multiple-in-c}
-use Rattle.demands.proofs.Conditions.{Conditions, conditions, told-caught, told-together}
+use Rattle.demands.proofs.Conditions.{Conditions, conditions, one-or-zero, told-caught, told-together}
 use Rattle.demands.proofs.Judging.{Judges, judge-means, judge-in-c, cover-means, cover-in-c}
-use Rattle.demands.proofs.Completeness.{EveryCaught, FirstUncaught, Counted, complete-means, first-means, counts-mean}
+use Rattle.demands.proofs.Completeness.{EveryCaught, FirstUncaught, Counted, only-told, complete-means, first-means, counts-mean}
 use Rattle.demands.proofs.Demand1OfC as refusing-in-c
 
--- ---- a gate, over bits
+-- ---- a gate, over bits: what `Makes` says; that a run does this is `gate-makes-level`
 
 -- bit j is the value of line j
 pub bit-is : (s j : ℕ) → bit s j ≡ s / 2 ^ j % 2
@@ -88,6 +88,24 @@ pub gate-makes-level : (low high : Ended forward.Post)
 gate-makes-level low high same s t e f =
     level-more (forward-means .as-said low (s ∷ []) e)
     (coe 1 0 (i. RunsForward (same .0 i) (same .1 i) (same .2 i) (same .3 i) (t ∷ [])) (forward-means .as-said high (t ∷ []) f))
+
+-- the same in C
+pub level-0-is-input-in-c : (call : Ended c-forward.Post)
+    → let (_, (_, (level, (input, _)))) = call .inputs in
+    level ≡ 0 → call .result .number ≡ 0 → call .result .state ≡ input
+level-0-is-input-in-c call zero none =
+    let (lines, (gates, (_, (input, _)))) = call .inputs in
+    level-none (subst (λ level. RunsForward lines (now gates) level input (call .result .state ∷ [])) zero (forward-in-c .as-said call none))
+
+pub gate-makes-level-in-c : (low high : Ended c-forward.Post)
+    → let (lines, (gates, (level, (input, _)))) = low .inputs in
+    let (lines′, (gates′, (level′, (input′, _)))) = high .inputs in
+    (lines ≡ lines′) × (now gates ≡ now gates′) × (suc level ≡ level′) × (input ≡ input′)
+    → low .result .number ≡ 0 → high .result .number ≡ 0
+    → (gs : List Gate) × Circuit lines (now gates) gs × (suc level ≤ length gs) × Makes (gate gs (suc level)) (low .result .state) (high .result .state)
+gate-makes-level-in-c low high same e f =
+    level-more (forward-in-c .as-said low e)
+    (coe 1 0 (i. RunsForward (same .0 i) (same .1 i) (same .2 i) (same .3 i) (high .result .state ∷ [])) (forward-in-c .as-said high f))
 
 -- ---- runs undo each other: of two runs of one circuit to and from one level, the second is given the state that the first tells, and tells what
 -- the first was given
@@ -153,11 +171,20 @@ forward-after-backward-in-c first second same none told =
 pub record CaughtExactly (n : ℕ) (words : List ℕ) (x : ℕ) (f : Fault) (values : List ℕ) : Type 0 where
   pub gs : List Gate
   pub circuit : Circuit n words gs
+  pub fault : Has n gs f
+  pub only : (values ≡ 1 ∷ []) ⊎ (values ≡ 0 ∷ [])
   pub by-output : (values ≡ 1 ∷ []) ↔ Caught gs f x
   pub by-condition : Conditions gs f x values
 
 caught-exactly : {n : ℕ} {words : List ℕ} {x : ℕ} {f : Fault} {values : List ℕ} → TellsCaught n words x f values → CaughtExactly n words x f values
-caught-exactly w = record { gs = w .gs; circuit = w .circuit; by-output = told-caught w; by-condition = conditions w }
+caught-exactly w = record {
+  gs = w .gs;
+  circuit = w .circuit;
+  fault = w .fault;
+  only = one-or-zero (w .says);
+  by-output = told-caught w;
+  by-condition = conditions w;
+}
 
 pub catches-exactly : Answers catches.Post (λ κs. toldCaught)
     (λ κs (lines, (gates, (vector, (fault, _)))) values e. CaughtExactly lines (now gates) vector fault values)
@@ -173,11 +200,21 @@ pub record TogetherExactly (n : ℕ) (words : List ℕ) (x : ℕ) (list values :
   pub circuit : Circuit n words gs
   pub fs : List Fault
   pub lent : list ≡ records fs
+  pub multiple : Multiple n gs fs
+  pub only : (values ≡ 1 ∷ []) ⊎ (values ≡ 0 ∷ [])
   pub by-output : (values ≡ 1 ∷ []) ↔ CaughtTogether gs fs x
 
 together-exactly : {n : ℕ} {words : List ℕ} {x : ℕ} {list values : List ℕ} → TellsCaughtTogether n words x list values
     → TogetherExactly n words x list values
-together-exactly w = record { gs = w .gs; circuit = w .circuit; fs = w .fs; lent = w .lent; by-output = told-together w }
+together-exactly w = record {
+  gs = w .gs;
+  circuit = w .circuit;
+  fs = w .fs;
+  lent = w .lent;
+  multiple = w .multiple;
+  only = one-or-zero (w .says);
+  by-output = told-together w;
+}
 
 pub catches-multiple-exactly : Answers catches-multiple.Post (λ κs. toldCaught)
     (λ κs (lines, (gates, (vector, (entries, _)))) values e. TogetherExactly lines (now gates) vector (now entries) values)
@@ -192,6 +229,9 @@ catches-multiple-exactly-in-c = record { as-said = λ call z. together-exactly (
 pub record CompleteExactly (n : ℕ) (words xs : List ℕ) (class : ℕ) (values : List ℕ) : Type 0 where
   pub gs : List Gate
   pub circuit : Circuit n words gs
+  -- two counts, and then 1 and four zeros, or 0 and a fault
+  pub only : (number : ℕ) × (total : ℕ) × ((values ≡ number ∷ total ∷ 1 ∷ 0 ∷ 0 ∷ 0 ∷ 0 ∷ [])
+      ⊎ ((f : Fault) × (values ≡ number ∷ total ∷ 0 ∷ f .class ∷ f .place ∷ f .line ∷ f .value ∷ [])))
   pub by-all : (number total flag : ℕ) (rest : List ℕ) → values ≡ number ∷ total ∷ flag ∷ rest → (flag ≡ 1) ↔ EveryCaught n gs class xs
   pub by-first : (number total : ℕ) (f : Fault) → values ≡ number ∷ total ∷ 0 ∷ f .class ∷ f .place ∷ f .line ∷ f .value ∷ []
       → FirstUncaught n gs class xs f
@@ -203,6 +243,7 @@ complete-exactly : {n : ℕ} {words xs : List ℕ} {class : ℕ} {values : List 
 complete-exactly w = record {
   gs = w .gs;
   circuit = w .circuit;
+  only = only-told w;
   by-all = complete-means w;
   by-first = first-means w;
   by-number = counts-mean w;

@@ -1,6 +1,6 @@
--- Demand 3, over the contracts: for each valid circuit of at most 12 lines and room for the bound, the compact set catches every single stuck-at
--- fault and every multiple one of 1 to 256 entries, each pick is the input that catches most of what is left, the smallest on a tie, and there
--- are at most 2 + floor(log2 S) of them.
+-- Demand 3, over the contracts: where `compact_set` answers, which is for each valid circuit of at most 12 lines with room for the bound
+-- (`compact-set-takes` of `Accepting`), its set catches every single stuck-at fault and every multiple one of 1 to 256 entries; each pick is the
+-- input that catches the most of what is left, the smallest on a tie; and there are at most 2 + floor(log2 S) of them.
 use Prim.Native.Nat.{ℕ, suc, _+_, _*_, _^_, _≤_, _<_}
 use mathlib.Core.Path.{_≡_, sym, _∙_}
 use mathlib.Core.List.{List, [], _∷_, List·Memᴰ}
@@ -19,9 +19,10 @@ use Rattle.simulator.proofs.catches.Reads as catches
 use Rattle.simulator.proofs.catches_multiple.Reads as catches-multiple
 use Rattle.testsets.specs.Answers.{toldMade}
 use Rattle.testsets.proofs.compact_set.Reads as compact-set
-use Rattle.demands.proofs.Machine.{Circuit}
+use Rattle.demands.proofs.Machine.{Circuit, CaughtTogether, Multiple}
 use Rattle.demands.proofs.FaultLists.{Class, Picks}
-use Rattle.demands.proofs.SetsCatch.{compact-single, compact-multiple, compact-few, compact-picks}
+use Rattle.demands.proofs.Completeness.{EveryCaught}
+use Rattle.demands.proofs.SetsCatch.{compact-single, compact-multiple, compact-few, compact-picks, compact-catches, compact-together}
 use Rattle.demands.proofs.Sets.{MakesCompact, compact-set-means}
 use Rattle.demands.proofs.Answering.{Ended}
 
@@ -56,11 +57,20 @@ module _ (made : Ended compact-set.Post) (k : ℕ) (told : toldMade (made .resul
       × ((log : ℕ) × (2 ^ log ≤ n * suc (length gs)) × (n * suc (length gs) < 2 ^ suc log) × (k ≤ 2 + log))
   at-most = (is .gs, is .circuit, (is .log, is .log-below, is .log-above, compact-few _ _ _ _ k is))
 
-  -- each is the smallest input that catches most of the stuck-at faults that those before it leave, and at least half; none is left in the end
+  -- each is the smallest input that catches the most of the stuck-at faults that those before it leave, and at least half; none is left in the end
   pub by-the-rule : (gs : List Gate) × Circuit n words gs × ((faults : List Fault) × Class n gs 1 faults × Picks n gs faults written)
   by-the-rule = (is .gs, is .circuit, (is .faults, is .stuck-at, compact-picks _ _ _ _ k is))
 
-  -- every single stuck-at fault that `catches` takes with this circuit, whatever vector it was asked with: with some vector of the set 1 is told
+  -- every stuck-at fault that the circuit has is caught by some vector of the set, and so is every multiple one, of 1 to 256 entries
+  pub single-caught : (gs : List Gate) × Circuit n words gs × EveryCaught n gs 1 written
+  single-caught = (is .gs, is .circuit, compact-catches _ _ _ _ k is)
+
+  pub multiple-caught : (gs : List Gate) × Circuit n words gs
+      × ((fs : List Fault) → Multiple n gs fs → (v : ℕ) × List·Memᴰ v written × CaughtTogether gs fs v)
+  multiple-caught = (is .gs, is .circuit, compact-together _ _ _ _ k is)
+
+  -- and by what is told: every single stuck-at fault that `catches` takes with this circuit, whatever vector it was asked with, is told as caught
+  -- with some vector of the set
   pub every-single : (asked : Ended catches.Post)
       → let (lines, (gates, (_, (fault, _)))) = asked .inputs in
       Lent n words lines (now gates) → fault .class ≡ 1 → (values : List ℕ) → toldCaught (asked .result) ≡ answered values
@@ -74,7 +84,7 @@ module _ (made : Ended compact-set.Post) (k : ℕ) (told : toldMade (made .resul
       let w = compact-single _ _ _ _ k is x f (coe 0 1 (i. fine ≡ firstOf (catchRows (same .0 i) (same .1 i) x f) fine) passed) class in
       (w .0, w .1, λ call lent vector fault. w .2 (toldCaught (call .result)) (let p = call .promised in cc))
 
-  -- every multiple one, of 1 to 256 entries, that `catches_multiple` takes
+  -- and every multiple one that `catches_multiple` takes
   pub every-multiple : (asked : Ended catches-multiple.Post)
       → let (lines, (gates, (_, (entries, _)))) = asked .inputs in
       Lent n words lines (now gates) → (values : List ℕ) → toldCaught (asked .result) ≡ answered values

@@ -16,9 +16,10 @@ use Rattle.nufsadeem.proofs.nuf_catches.Reads as catches
 use Rattle.nufsadeem.proofs.nuf_catches_multiple.Reads as catches-multiple
 use Rattle.answers.specs.declared.Catch.{Catch}
 use Rattle.nufsadeem.proofs.nuf_compact_set.Reads as compact-set
-use Rattle.demands.proofs.Machine.{Circuit}
+use Rattle.demands.proofs.Machine.{Circuit, CaughtTogether, Multiple}
 use Rattle.demands.proofs.FaultLists.{Class, Picks}
-use Rattle.demands.proofs.SetsCatch.{compact-single, compact-multiple, compact-few, compact-picks}
+use Rattle.demands.proofs.Completeness.{EveryCaught}
+use Rattle.demands.proofs.SetsCatch.{compact-single, compact-multiple, compact-few, compact-picks, compact-catches, compact-together}
 use Rattle.demands.proofs.Sets.{MakesCompact, compact-set-in-c}
 use Rattle.demands.proofs.Answering.{Ended}
 use Rattle.demands.proofs.InC.{toldBy, tells-answer, told-in-c}
@@ -58,6 +59,13 @@ module _ (made : Ended compact-set.Post) (zero : made .result .number ≡ 0) whe
 
   pub by-the-rule : (gs : List Gate) × Circuit n words gs × ((faults : List Fault) × Class n gs 1 faults × Picks n gs faults written)
   by-the-rule = (is .gs, is .circuit, (is .faults, is .stuck-at, compact-picks _ _ _ _ k is))
+
+  pub single-caught : (gs : List Gate) × Circuit n words gs × EveryCaught n gs 1 written
+  single-caught = (is .gs, is .circuit, compact-catches _ _ _ _ k is)
+
+  pub multiple-caught : (gs : List Gate) × Circuit n words gs
+      × ((fs : List Fault) → Multiple n gs fs → (v : ℕ) × List·Memᴰ v written × CaughtTogether gs fs v)
+  multiple-caught = (is .gs, is .circuit, compact-together _ _ _ _ k is)
 
   pub every-single : (asked : Ended catches.Post)
       → let (lines, (gates, (_, (fault, _)))) = asked .inputs in

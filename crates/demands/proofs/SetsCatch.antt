@@ -8,6 +8,7 @@ use lib.Seq.{take-at}
 use Rattle.basics.specs.Choice.{count}
 use Rattle.basics.specs.Lists.{All}
 use Rattle.basics.proofs.Lists.{all-entry}
+use Rattle.basics.proofs.All.{all-map}
 use Rattle.refusals.specs.Tables.{Told, firstOf}
 use Rattle.refusals.specs.Tables.Told.{answered}
 use Rattle.refusals.specs.Checks.{fine}
@@ -24,11 +25,11 @@ use Rattle.simulator.specs.Rules.{multipleRows}
 use Rattle.faults.specs.declared.Fault.{Fault}
 use Rattle.simulator.proofs.RuleLaws.{catch-ok}
 use Rattle.testsets.proofs.Multiple.{deepest, deepest-caught}
-use Rattle.demands.proofs.Machine.{Circuit, Has, Multiple}
+use Rattle.demands.proofs.Machine.{Circuit, CaughtTogether, Has, Multiple}
 use Rattle.demands.proofs.MachineLaws.{circuit-ok, gates-flat}
-use Rattle.demands.proofs.HasLaws.{has-of, has-line}
+use Rattle.demands.proofs.HasLaws.{has-of, has-line, has-value}
 use Rattle.demands.proofs.ValidLists.{multiple-is}
-use Rattle.demands.proofs.FaultyLaws.{caught-means}
+use Rattle.demands.proofs.FaultyLaws.{caught-means, together-means}
 use Rattle.demands.proofs.FaultLists.{Picks}
 use Rattle.demands.proofs.Sets.{MakesCompact}
 use Rattle.demands.proofs.Completeness.{EveryCaught}
@@ -100,6 +101,16 @@ module _ (n : ℕ) (words room exit : List ℕ) (k : ℕ) (is : MakesCompact n w
   compact-multiple x list taken =
       let w = tells-multiple n words (is .gs) (is .circuit) (is .set) (is .stands .inputs) (is .stands .catches-all) x list taken in
       (w .0, subst (List·Memᴰ (w .0)) front (w .1), w .2)
+
+  -- it catches every stuck-at fault that the circuit has, and all of them that a multiple fault has together
+  pub compact-catches : EveryCaught n (is .gs) 1 (take k exit)
+  compact-catches = subst (EveryCaught n (is .gs) 1) front (is .stands .catches-all)
+
+  pub compact-together : (fs : List Fault) → Multiple n (is .gs) fs → (v : ℕ) × List·Memᴰ v (take k exit) × CaughtTogether (is .gs) fs v
+  compact-together fs multiple =
+      let w = multiple-caught n words (is .gs) (is .circuit) (is .set) (is .stands .inputs) (is .stands .catches-all) fs multiple in
+      let values = all-map (λ f h. has-value n (is .gs) f (h .1) (h .0)) fs (multiple .stuck) in
+      (w .0, subst (List·Memᴰ (w .0)) front (w .1), together-means (is .gs) fs values (multiple .once) (w .0) .0 (w .2))
 
   -- at most 2 + floor(log2 S) vectors, and each picked by the rule
   pub compact-few : k ≤ 2 + is .log
