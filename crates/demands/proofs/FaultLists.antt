@@ -28,7 +28,8 @@ pub record Class (n : ℕ) (gs : List Gate) (class : ℕ) (fs : List Fault) : Ty
   pub has-all : (f : Fault) → f .class ≡ class → Has n gs f → List·Memᴰ f fs
   pub ordered : Ordered fs
 
--- ---- those of a list that have a property, in their order; each other has the contrary
+-- ---- those of a list that have one property, in their order; each other has another, which is its contrary wherever this is said: `not-both` of
+-- `Conditions`, `apart` of `Completeness`
 
 pub data Kept {A : Type 0} (Yes No : A → Type 0) : List A → List A → Type 0 where
   none : Kept Yes No [] []

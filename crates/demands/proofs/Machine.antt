@@ -1,5 +1,5 @@
 -- The circuit and its faults in the words of docs/SCOPE.md, spelled from the bits of a state and from lists: what the contracts are held against.
--- Of what they cite it names `bit` alone, which `bit-is` of `Demand2` spells.
+-- Of what they cite it names the structs `Gate` and `Fault`, `All`, and `bit`, which `bit-is` of `Demand2` spells.
 use Prim.Native.Nat.{ℕ, suc, _-_, _^_, _≤_, _<_}
 use mathlib.Core.Path.{_≡_}
 use mathlib.Core.Logic.{_↔_, _≢_}
@@ -31,7 +31,7 @@ abbrev pub Runs : List Gate → ℕ → ℕ → Type 0
 Runs [] s t = t ≡ s
 Runs (g ∷ gs) s t = (u : ℕ) × Makes g s u × Runs gs u t
 
--- level i of input x is s: the input is level 0, and gate i makes level i of level i - 1
+-- level i of input x is s: the input is level 0, and gate i makes level i of level i - 1; above d, where no call goes, it stays the output
 abbrev pub Level : List Gate → ℕ → ℕ → ℕ → Type 0
 Level gs i x s = Runs (take i gs) x s
 
@@ -93,7 +93,7 @@ pub data FaultyRuns (gs : List Gate) (f : Fault) (x t : ℕ) : Type 0 where
   extra-control : f .class ≡ 4 → (h : Gate) → SaveFor (f .line) (gate gs (f .place)) h → Control h (f .line)
       → Runs (Instead gs (f .place) h) x t → FaultyRuns gs f x t
 
--- ---- caught: the final output differs from the good one
+-- ---- caught: the final output differs from the good one; there is one of each (`runs-one`, `stuck-one` of `MachineLaws`)
 
 pub record Outputs (gs : List Gate) (x : ℕ) (Faulty : ℕ → Type 0) (Compared : ℕ → ℕ → Type 0) : Type 0 where
   pub bad : ℕ
