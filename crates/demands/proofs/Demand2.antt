@@ -102,7 +102,8 @@ pub gate-makes-level-in-c : (low high : Ended c-forward.Post)
     let (lines′, (gates′, (level′, (input′, _)))) = high .inputs in
     (lines ≡ lines′) × (now gates ≡ now gates′) × (suc level ≡ level′) × (input ≡ input′)
     → low .result .number ≡ 0 → high .result .number ≡ 0
-    → (gs : List Gate) × Circuit lines (now gates) gs × (suc level ≤ length gs) × Makes (gate gs (suc level)) (low .result .state) (high .result .state)
+    → (gs : List Gate) × Circuit lines (now gates) gs × (suc level ≤ length gs)
+    × Makes (gate gs (suc level)) (low .result .state) (high .result .state)
 gate-makes-level-in-c low high same e f =
     level-more (forward-in-c .as-said low e)
     (coe 1 0 (i. RunsForward (same .0 i) (same .1 i) (same .2 i) (same .3 i) (high .result .state ∷ [])) (forward-in-c .as-said high f))

@@ -33,6 +33,7 @@ use Rattle.demands.proofs.RuleWords.{Words, InWords, OfOne, OfList, AsW
 use Rattle.demands.proofs.RuleWords.{same-iff, failing, passing, either, neither, not-both, both}
 use Rattle.demands.proofs.RulesTold.{Asked, Spelled}
 use Rattle.demands.proofs.RulesTold.Asked.{rule_asks_}
+use Rattle.demands.proofs.RulesTold.Spelled.{_then_, done}
 
 -- what a test of order says
 at-least : (a b : ℕ) → (leb a b ≡ true) ↔ (a ≤ b)
@@ -268,17 +269,58 @@ Sizes bytes =
     ((four bytes 16 ≢ 28) ⊎ ((four bytes 20 ≢ 28 + 12 * d) ⊎ ((four bytes 24 ≢ 28 + 12 * d + 4 * m) ⊎ (length bytes ≢ 28 + 12 * d + 4 * m))))
     ((four bytes 16 ≡ 28) × ((four bytes 20 ≡ 28 + 12 * d) × ((four bytes 24 ≡ 28 + 12 * d + 4 * m) × (length bytes ≡ 28 + 12 * d + 4 * m))))
 
+sizes-rule : (bytes : List ℕ) → InWords 0 (badSizes bytes) (Sizes bytes)
+unfolding badSizes gatesIn vectorsIn
+sizes-rule bytes =
+    let d = four bytes 8 in
+    let m = four bytes 12 in
+    let vectors-at = 28 + 12 * d in
+    let end = 28 + 12 * d + 4 * m in
+    rw (number-four bytes 8, number-four bytes 12, number-four bytes 16, number-four bytes 20, number-four bytes 24)
+    (of-one 0 _
+    (either (not (eqb (four bytes 16) 28)) _ (not-eqb-iff (four bytes 16) 28)
+    (either (not (eqb (four bytes 20) vectors-at)) _ (not-eqb-iff (four bytes 20) vectors-at)
+    (either (not (eqb (four bytes 24) end)) _ (not-eqb-iff (four bytes 24) end) (not-eqb-iff (length bytes) end))))
+    (neither (not (eqb (four bytes 16) 28)) _ (same-iff (four bytes 16) 28)
+    (neither (not (eqb (four bytes 20) vectors-at)) _ (same-iff (four bytes 20) vectors-at)
+    (neither (not (eqb (four bytes 24) end)) _ (same-iff (four bytes 24) end) (same-iff (length bytes) end)))))
+
+-- fewer bytes than a header; a form that is not 1; classes wanted that are bad, or bytes 6 and 7 that are not 0
+abbrev pub Short : List ℕ → Words
+Short bytes = OfOne 0 (length bytes < 28) (28 ≤ length bytes)
+
+short-rule : (bytes : List ℕ) → InWords 0 (ltb (length bytes) 28) (Short bytes)
+short-rule bytes = of-one 0 (ltb (length bytes) 28) (less (length bytes) 28) (no-less (length bytes) 28)
+
+abbrev pub Form : List ℕ → Words
+Form bytes = OfOne 0 (two bytes 0 ≢ 1) (two bytes 0 ≡ 1)
+
+form-rule : (bytes : List ℕ) → InWords 0 (not (eqb (two bytes 0) 1)) (Form bytes)
+form-rule bytes = of-one 0 (not (eqb (two bytes 0) 1)) (not-eqb-iff (two bytes 0) 1) (same-iff (two bytes 0) 1)
+
+abbrev pub ClassesIn : List ℕ → Words
+ClassesIn bytes =
+    let k = two bytes 4 in
+    OfOne 0 (((k ≡ 0) ⊎ (15 < k)) ⊎ (two bytes 6 ≢ 0)) (((k ≢ 0) × (k ≤ 15)) × (two bytes 6 ≡ 0))
+
+classes-in-rule : (bytes : List ℕ) → InWords 0 (badClasses (two bytes 4) || not (eqb (two bytes 6) 0)) (ClassesIn bytes)
+unfolding badClasses
+classes-in-rule bytes =
+    let k = two bytes 4 in
+    of-one 0 ((eqb k 0 || ltb 15 k) || not (eqb (two bytes 6) 0))
+    (either (eqb k 0 || ltb 15 k) _ (either (eqb k 0) (ltb 15 k) (equal k 0) (less 15 k)) (not-eqb-iff (two bytes 6) 0))
+    (neither (eqb k 0 || ltb 15 k) _ (neither (eqb k 0) (ltb 15 k) (other k 0) (no-less 15 k)) (same-iff (two bytes 6) 0))
+
 -- the rules of reading: header, gates and vectors, room
 abbrev pub readAsked : List ℕ → ℕ → ℕ → List Asked
 readAsked bytes gateRoom vectorRoom =
     let n = two bytes 2 in
-    let classes = two bytes 4 in
     let d = four bytes 8 in
     let m = four bytes 12 in
-    rule 1 asks OfOne 0 (length bytes < 28) (28 ≤ length bytes) ∷
-    rule 2 asks OfOne 0 (two bytes 0 ≢ 1) (two bytes 0 ≡ 1) ∷
+    rule 1 asks Short bytes ∷
+    rule 2 asks Form bytes ∷
     rule 3 asks Lines n ∷
-    rule 4 asks OfOne 0 (((classes ≡ 0) ⊎ (15 < classes)) ⊎ (two bytes 6 ≢ 0)) (((classes ≢ 0) × (classes ≤ 15)) × (two bytes 6 ≡ 0)) ∷
+    rule 4 asks ClassesIn bytes ∷
     rule 5 asks Counts d m ∷
     rule 6 asks Sizes bytes ∷
     rule 7 asks Gates n (wordsFrom (3 * d) bytes 28) ∷
@@ -286,10 +328,8 @@ readAsked bytes gateRoom vectorRoom =
     rule 10 asks TwoRooms (3 * d) gateRoom m vectorRoom ∷ []
 
 pub read-spelled : (bytes : List ℕ) (gateRoom vectorRoom : ℕ) → Spelled (readRows bytes gateRoom vectorRoom) (readAsked bytes gateRoom vectorRoom)
-unfolding readRows headerRows contentRows badSizes badClasses linesIn classesIn gatesIn vectorsIn gateWords vectorWords
+unfolding readRows headerRows contentRows linesIn classesIn gatesIn vectorsIn gateWords vectorWords
 read-spelled bytes gateRoom vectorRoom =
-    let n = two bytes 2 in
-    let classes = two bytes 4 in
     let d = four bytes 8 in
     let m = four bytes 12 in
     rw (
@@ -299,55 +339,10 @@ read-spelled bytes gateRoom vectorRoom =
       number-two bytes 6,
       number-four bytes 8,
       number-four bytes 12,
-      number-four bytes 16,
-      number-four bytes 20,
-      number-four bytes 24,
       words-from (3 * d) bytes 28,
       words-from m bytes (28 + 12 * d),
-    ) (
-      refl,
-      of-one 0 (ltb (length bytes) 28) (less (length bytes) 28) (no-less (length bytes) 28),
-      (
-        refl,
-        of-one 0 (not (eqb (two bytes 0) 1)) (not-eqb-iff (two bytes 0) 1) (same-iff (two bytes 0) 1),
-        (
-          refl,
-          lines-rule n,
-          (
-            refl,
-            of-one 0 ((eqb classes 0 || ltb 15 classes) || not (eqb (two bytes 6) 0))
-                (either (eqb classes 0 || ltb 15 classes) _ (either (eqb classes 0) (ltb 15 classes) (equal classes 0) (less 15 classes)) (not-eqb-iff (two bytes 6) 0))
-                (neither (eqb classes 0 || ltb 15 classes) _ (neither (eqb classes 0) (ltb 15 classes) (other classes 0) (no-less 15 classes))
-                (same-iff (two bytes 6) 0)),
-            (
-              refl,
-              counts-rule d m,
-              (
-                refl,
-                of-one 0 _
-                    (either (not (eqb (four bytes 16) 28)) _ (not-eqb-iff (four bytes 16) 28)
-                    (either (not (eqb (four bytes 20) (28 + 12 * d))) _ (not-eqb-iff (four bytes 20) (28 + 12 * d))
-                    (either (not (eqb (four bytes 24) (28 + 12 * d + 4 * m))) _ (not-eqb-iff (four bytes 24) (28 + 12 * d + 4 * m))
-                    (not-eqb-iff (length bytes) (28 + 12 * d + 4 * m)))))
-                    (neither (not (eqb (four bytes 16) 28)) _ (same-iff (four bytes 16) 28)
-                    (neither (not (eqb (four bytes 20) (28 + 12 * d))) _ (same-iff (four bytes 20) (28 + 12 * d))
-                    (neither (not (eqb (four bytes 24) (28 + 12 * d + 4 * m))) _ (same-iff (four bytes 24) (28 + 12 * d + 4 * m))
-                    (same-iff (length bytes) (28 + 12 * d + 4 * m))))),
-                (
-                  refl,
-                  gates-rule n (wordsFrom (3 * d) bytes 28),
-                  (
-                    refl,
-                    vectors-rule n (wordsFrom m bytes (28 + 12 * d)),
-                    (refl, two-rooms-rule (3 * d) gateRoom m vectorRoom, tt),
-                  ),
-                ),
-              ),
-            ),
-          ),
-        ),
-      ),
-    )
+    ) (short-rule bytes then form-rule bytes then lines-rule _ then classes-in-rule bytes then counts-rule d m then sizes-rule bytes
+    then gates-rule _ _ then vectors-rule _ _ then two-rooms-rule (3 * d) gateRoom m vectorRoom then done)
 
 -- and of writing
 abbrev pub writeAsked : ℕ → ℕ → List ℕ → List ℕ → ℕ → List Asked
@@ -362,16 +357,6 @@ writeAsked n classes words xs room =
 pub write-spelled : (n classes : ℕ) (words xs : List ℕ) (room : ℕ)
     → Spelled (writeRows n classes words xs room) (writeAsked n classes words xs room)
 unfolding writeRows contentRows gateCount
-write-spelled n classes words xs room = (
-  refl,
-  lines-rule n,
-  (
-    refl,
-    classes-rule classes,
-    (
-      refl,
-      counts-rule (length words / 3) (length xs),
-      (refl, gates-rule n words, (refl, vectors-rule n xs, (refl, room-as-rule _ _ room (length-image n classes words xs), tt))),
-    ),
-  ),
-)
+write-spelled n classes words xs room =
+    lines-rule n then classes-rule classes then counts-rule (length words / 3) (length xs) then gates-rule n words then vectors-rule n xs
+    then room-as-rule _ _ room (length-image n classes words xs) then done

@@ -26,6 +26,7 @@ use Rattle.demands.proofs.RuleOfSites.{EntryCount, entry-count-rule}
 use Rattle.refusals.specs.Tables.{Row}
 use Rattle.demands.proofs.RulesTold.{Asked, GivenFirst, AllKept, Asks, by-words}
 use Rattle.demands.proofs.RulesTold.Asked.{rule_asks_}
+use Rattle.demands.proofs.RulesTold.Spelled.{_then_, done}
 use Rattle.demands.proofs.Demand1OfC as calls
 use Rattle.demands.proofs.InC.{RefusesInC, tells-refusal, tells-answer}
 
@@ -58,37 +59,15 @@ pub forward-asks : Asks (calls.forward-refuses .refuses) (λ κs (lines, (gates,
     circuitAsked lines (now gates) 0
     ++ (rule 8 asks OneVector lines state ∷ rule 12 asks OneLevel (length (now gates) / 3) level ∷ []))
 unfolding runRows levelRows vectorRows circuitRows circuitSetRows
-forward-asks = by-words _ (λ κs a. (
-  refl,
-  lines-rule _,
-  (
-    refl,
-    whole-rule _ _,
-    (
-      refl,
-      gates-rule _ _,
-      (refl, vector-rule _ _, (refl, level-rule _ _, tt)),
-    ),
-  ),
-))
+forward-asks = by-words (calls.forward-refuses .refuses) (λ κs a.
+    lines-rule _ then whole-rule _ _ then gates-rule _ _ then vector-rule _ _ then level-rule _ _ then done)
 
 pub backward-asks : Asks (calls.backward-refuses .refuses) (λ κs (lines, (gates, (level, (state, _)))).
     circuitAsked lines (now gates) 0
     ++ (rule 8 asks OneVector lines state ∷ rule 12 asks OneLevel (length (now gates) / 3) level ∷ []))
 unfolding runRows levelRows vectorRows circuitRows circuitSetRows
-backward-asks = by-words _ (λ κs a. (
-  refl,
-  lines-rule _,
-  (
-    refl,
-    whole-rule _ _,
-    (
-      refl,
-      gates-rule _ _,
-      (refl, vector-rule _ _, (refl, level-rule _ _, tt)),
-    ),
-  ),
-))
+backward-asks = by-words (calls.backward-refuses .refuses) (λ κs a.
+    lines-rule _ then whole-rule _ _ then gates-rule _ _ then vector-rule _ _ then level-rule _ _ then done)
 
 -- simulator
 
@@ -96,55 +75,23 @@ pub catches-asks : Asks (calls.catches-refuses .refuses) (λ κs (lines, (gates,
     circuitAsked lines (now gates) 0
     ++ (rule 8 asks OneVector lines vector ∷ rule 9 asks OneFault lines (gatesOf (now gates)) fault ∷ []))
 unfolding catchRows faultRows vectorRows circuitRows circuitSetRows
-catches-asks = by-words _ (λ κs a. (
-  refl,
-  lines-rule _,
-  (
-    refl,
-    whole-rule _ _,
-    (
-      refl,
-      gates-rule _ _,
-      (refl, vector-rule _ _, (refl, fault-rule _ _ _, tt)),
-    ),
-  ),
-))
+catches-asks = by-words (calls.catches-refuses .refuses) (λ κs a.
+    lines-rule _ then whole-rule _ _ then gates-rule _ _ then vector-rule _ _ then fault-rule _ _ _ then done)
 
 pub catches-multiple-asks : Asks (calls.catches-multiple-refuses .refuses) (λ κs (lines, (gates, (vector, (entries, _)))).
     circuitAsked lines (now gates) 0
     ++ (rule 8 asks OneVector lines vector ∷ rule 9 asks Entries lines (gatesOf (now gates)) (now entries)
     ∷ rule 13 asks EntryCount (faultsOf (now entries)) ∷ []))
 unfolding multipleRows entriesRows vectorRows circuitRows circuitSetRows
-catches-multiple-asks = by-words _ (λ κs a. (
-  refl,
-  lines-rule _,
-  (
-    refl,
-    whole-rule _ _,
-    (
-      refl,
-      gates-rule _ _,
-      (refl, vector-rule _ _, (refl, entries-rule _ _ _, (refl, entry-count-rule _, tt))),
-    ),
-  ),
-))
+catches-multiple-asks = by-words (calls.catches-multiple-refuses .refuses) (λ κs (_, (_, (_, (entries, _)))).
+    lines-rule _ then whole-rule _ _ then gates-rule _ _ then vector-rule _ _ then entries-rule _ _ _
+    then entry-count-rule (faultsOf (now entries)) then done)
 
 pub test-for-asks : Asks (calls.test-for-refuses .refuses) (λ κs (lines, (gates, (fault, _))).
     circuitAsked lines (now gates) 0 ++ (rule 9 asks OneFault lines (gatesOf (now gates)) fault ∷ []))
 unfolding testRows faultRows circuitRows circuitSetRows
-test-for-asks = by-words _ (λ κs a. (
-  refl,
-  lines-rule _,
-  (
-    refl,
-    whole-rule _ _,
-    (
-      refl,
-      gates-rule _ _,
-      (refl, fault-rule _ _ _, tt),
-    ),
-  ),
-))
+test-for-asks = by-words (calls.test-for-refuses .refuses) (λ κs a.
+    lines-rule _ then whole-rule _ _ then gates-rule _ _ then fault-rule _ _ _ then done)
 
 -- judge
 
@@ -152,37 +99,15 @@ pub judge-asks : Asks (calls.judge-refuses .refuses) (λ κs (lines, (gates, (ve
     circuitAsked lines (now gates) (length (now vectors))
     ++ (rule 8 asks Vectors lines (now vectors) ∷ rule 9 asks OneClass class ∷ []))
 unfolding judgeRows setRows classRows circuitSetRows
-judge-asks = by-words _ (λ κs a. (
-  refl,
-  lines-rule _,
-  (
-    refl,
-    whole-rule _ _,
-    (
-      refl,
-      gates-rule _ _,
-      (refl, vectors-rule _ _, (refl, class-rule _, tt)),
-    ),
-  ),
-))
+judge-asks = by-words (calls.judge-refuses .refuses) (λ κs a.
+    lines-rule _ then whole-rule _ _ then gates-rule _ _ then vectors-rule _ _ then class-rule _ then done)
 
 pub cover-asks : Asks (calls.cover-refuses .refuses) (λ κs (lines, (gates, (vectors, (class, _)))).
     circuitAsked lines (now gates) (length (now vectors))
     ++ (rule 8 asks Vectors lines (now vectors) ∷ rule 9 asks OneClass class ∷ []))
 unfolding judgeRows setRows classRows circuitSetRows
-cover-asks = by-words _ (λ κs a. (
-  refl,
-  lines-rule _,
-  (
-    refl,
-    whole-rule _ _,
-    (
-      refl,
-      gates-rule _ _,
-      (refl, vectors-rule _ _, (refl, class-rule _, tt)),
-    ),
-  ),
-))
+cover-asks = by-words (calls.cover-refuses .refuses) (λ κs a.
+    lines-rule _ then whole-rule _ _ then gates-rule _ _ then vectors-rule _ _ then class-rule _ then done)
 
 -- dropping
 
@@ -190,88 +115,47 @@ pub drop-asks : Asks (calls.drop-refuses .refuses) (λ κs (lines, (gates, (vect
     circuitAsked lines (now gates) 0
     ++ (rule 8 asks OneVector lines vector ∷ rule 9 asks PlainRecords lines (gatesOf (now gates)) (now list) ∷ []))
 unfolding dropRows recordRows vectorRows circuitRows circuitSetRows
-drop-asks = by-words _ (λ κs a. (
-  refl,
-  lines-rule _,
-  (
-    refl,
-    whole-rule _ _,
-    (
-      refl,
-      gates-rule _ _,
-      (refl, vector-rule _ _, (refl, plain-records-rule _ _ _, tt)),
-    ),
-  ),
-))
+drop-asks = by-words (calls.drop-refuses .refuses) (λ κs a.
+    lines-rule _ then whole-rule _ _ then gates-rule _ _ then vector-rule _ _ then plain-records-rule _ _ _ then done)
 
 pub drop-records-asks : Asks (calls.drop-records-refuses .refuses) (λ κs (lines, (gates, (vector, (list, _)))).
     circuitAsked lines (now gates) 0
     ++ (rule 8 asks OneVector lines vector ∷ rule 9 asks Records lines (gatesOf (now gates)) (now list) ∷ []))
 unfolding dropRecordsRows recordRows vectorRows circuitRows circuitSetRows
-drop-records-asks = by-words _ (λ κs a. (
-  refl,
-  lines-rule _,
-  (
-    refl,
-    whole-rule _ _,
-    (
-      refl,
-      gates-rule _ _,
-      (refl, vector-rule _ _, (refl, records-rule _ _ _, tt)),
-    ),
-  ),
-))
+drop-records-asks = by-words (calls.drop-records-refuses .refuses) (λ κs a.
+    lines-rule _ then whole-rule _ _ then gates-rule _ _ then vector-rule _ _ then records-rule _ _ _ then done)
 
 -- testsets
 
 pub backward-set-asks : Asks (calls.backward-set-refuses .refuses) (λ κs (lines, (gates, (room, _))).
     circuitAsked lines (now gates) 0 ++ (rule 10 asks Room (length (now gates) / 3 + 2) (length (now room)) ∷ []))
 unfolding backwardRows circuitRows circuitSetRows
-backward-set-asks = by-words _ (λ κs a. (
-  refl,
-  lines-rule _,
-  (
-    refl,
-    whole-rule _ _,
-    (
-      refl,
-      gates-rule _ _,
-      (refl, room-as-rule _ _ _ (ap (λ d. d + 2) (gates-count _)), tt),
-    ),
-  ),
-))
+backward-set-asks = by-words (calls.backward-set-refuses .refuses) (λ κs a.
+    lines-rule _ then whole-rule _ _ then gates-rule _ _ then room-as-rule _ _ _ (ap (λ d. d + 2) (gates-count _)) then done)
 
 pub compact-set-asks : Asks (calls.compact-set-refuses .refuses) (λ κs (lines, (gates, (room, _))).
     circuitAsked lines (now gates) 0
     ++ (rule 11 asks FewLines lines ∷ rule 10 asks Room (bound lines (gatesOf (now gates))) (length (now room)) ∷ []))
 unfolding compactRows circuitRows circuitSetRows
-compact-set-asks = by-words _ (λ κs a. (
-  refl,
-  lines-rule _,
-  (
-    refl,
-    whole-rule _ _,
-    (
-      refl,
-      gates-rule _ _,
-      (refl, few-lines-rule _, (refl, room-rule _ _, tt)),
-    ),
-  ),
-))
+compact-set-asks = by-words (calls.compact-set-refuses .refuses) (λ κs a.
+    lines-rule _ then whole-rule _ _ then gates-rule _ _ then few-lines-rule _ then room-rule _ _ then done)
 
 -- job
 
 pub read-job-asks : Asks (calls.read-job-refuses .refuses) (λ κs (bytes, (gates, (vectors, _))).
     readAsked (now bytes) (length (now gates)) (length (now vectors)))
-read-job-asks = by-words _ (λ κs a. read-spelled _ _ _)
+read-job-asks = by-words (calls.read-job-refuses .refuses) (λ κs a.
+    read-spelled _ _ _)
 
 pub write-job-asks : Asks (calls.write-job-refuses .refuses) (λ κs (lines, (classes, (gates, (vectors, (out, _))))).
     writeAsked lines classes (now gates) (now vectors) (length (now out)))
-write-job-asks = by-words _ (λ κs a. write-spelled _ _ _ _ _)
+write-job-asks = by-words (calls.write-job-refuses .refuses) (λ κs a.
+    write-spelled _ _ _ _ _)
 
 -- report_text
 
 pub report-asks : Asks (calls.report-refuses .refuses) (λ κs (bytes, (out, _)).
     rule 10 asks Room (length (reportText (now bytes))) (length (now out)) ∷ [])
 unfolding reportRows
-report-asks = by-words _ (λ κs a. (refl, room-rule _ _, tt))
+report-asks = by-words (calls.report-refuses .refuses) (λ κs a.
+    room-rule _ _ then done)

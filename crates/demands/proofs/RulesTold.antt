@@ -1,10 +1,10 @@
 -- What a call tells by its rules in words, for every table: a refusal with number k and place p exactly if rule k is the first that is given, and
 -- with that place; and an answer exactly if every rule is kept.
 use Prim.Native.Nat.{ℕ}
-use mathlib.Core.Path.{_≡_, refl, sym, _∙_}
+use mathlib.Core.Path.{_≡_, refl}
 use mathlib.Core.Logic.{_↔_, _⊎_, ⊎-elim, Iff·trans, Iff·symm}
 use mathlib.Core.Logic._⊎_.{inl, inr}
-use mathlib.Core.Bool.{true, false, true≢false, false≢true}
+use mathlib.Core.Bool.{Bool, true, false, true≢false, false≢true}
 use mathlib.Core.List.{List, [], _∷_}
 use Rattle.basics.specs.Lists.{All}
 use Rattle.refusals.specs.Tables.{Row, Told, firstOf}
@@ -30,41 +30,37 @@ abbrev pub AllKept : List Asked → Type 0
 AllKept [] = Unit {0}
 AllKept (rule number asks words ∷ more) = words .Kept × AllKept more
 
--- a table of tests, and the same in words
-abbrev pub Spelled : List Row → List Asked → Type 0
-Spelled [] [] = Unit {0}
-Spelled [] (rule number asks words ∷ more) = ⊥
-Spelled (refuse number at place when broken ∷ rows) [] = ⊥
-Spelled (refuse n at place when broken ∷ rows) (rule number asks words ∷ more) = (n ≡ number) × InWords place broken words × Spelled rows more
+infixr 40 _then_
+-- a table of tests, and the same in words, row by row
+pub data Spelled : List Row → List Asked → Type 1 where
+  done : Spelled [] []
+  _then_ : {number place : ℕ} {broken : Bool} {words : Words} {rows : List Row} {more : List Asked} → InWords place broken words
+      → Spelled rows more → Spelled (refuse number at place when broken ∷ rows) (rule number asks words ∷ more)
 
 first-given : (rows : List Row) (asked : List Asked) → Spelled rows asked → (values : List ℕ) (k p : ℕ)
     → (firstOf rows (answered values) ≡ refused k p) ↔ GivenFirst asked k p
-first-given [] [] spelled values k p = (λ e. answered-refused e, λ w. absurd w)
-first-given [] (rule number asks words ∷ more) spelled values k p = absurd spelled
-first-given (refuse n at q when broken ∷ rows) [] spelled values k p = absurd spelled
-first-given (refuse n at q when true ∷ rows) (rule number asks words ∷ more) spelled values k p = (
+first-given [] [] done values k p = (λ e. answered-refused e, λ w. absurd w)
+first-given (refuse n at q when true ∷ rows) (rule number asks words ∷ more) (spelled then rest) values k p = (
   λ e.
       let same : n ≡ k = cc in
       let place : q ≡ p = cc in
-      inl (sym (spelled .0) ∙ same, spelled .1 .given p .0 (refl, place)),
+      inl (same, spelled .given p .0 (refl, place)),
   λ w. ⊎-elim
-      (λ v. let given = spelled .1 .given p .1 (v .1) in λ i. refused ((spelled .0 ∙ v .0) i) (given .1 i))
-      (λ v. absurd (true≢false (spelled .1 .not-given .1 (v .0)))) w,
+      (λ v. let given = spelled .given p .1 (v .1) in λ i. refused (v .0 i) (given .1 i))
+      (λ v. absurd (true≢false (spelled .not-given .1 (v .0)))) w,
 )
-first-given (refuse n at q when false ∷ rows) (rule number asks words ∷ more) spelled values k p =
-    let rest = first-given rows more (spelled .2) values k p in (
-      λ e. inr (spelled .1 .not-given .0 refl, rest .0 e),
-      λ w. ⊎-elim (λ v. absurd (false≢true (spelled .1 .given p .1 (v .1) .0))) (λ v. rest .1 (v .1)) w,
+first-given (refuse n at q when false ∷ rows) (rule number asks words ∷ more) (spelled then rest) values k p =
+    let others = first-given rows more rest values k p in (
+      λ e. inr (spelled .not-given .0 refl, others .0 e),
+      λ w. ⊎-elim (λ v. absurd (false≢true (spelled .given p .1 (v .1) .0))) (λ v. others .1 (v .1)) w,
     )
 
 all-kept : (rows : List Row) (asked : List Asked) → Spelled rows asked → All Unbroken rows ↔ AllKept asked
-all-kept [] [] spelled = (λ w. tt, λ w. tt)
-all-kept [] (rule number asks words ∷ more) spelled = absurd spelled
-all-kept (refuse n at q when broken ∷ rows) [] spelled = absurd spelled
-all-kept (refuse n at q when broken ∷ rows) (rule number asks words ∷ more) spelled =
-    let rest = all-kept rows more (spelled .2) in (
-      λ w. (spelled .1 .not-given .0 (w .0), rest .0 (w .1)),
-      λ w. (spelled .1 .not-given .1 (w .0), rest .1 (w .1)),
+all-kept [] [] done = (λ w. tt, λ w. tt)
+all-kept (refuse n at q when broken ∷ rows) (rule number asks words ∷ more) (spelled then rest) =
+    let others = all-kept rows more rest in (
+      λ w. (spelled .not-given .0 (w .0), others .0 (w .1)),
+      λ w. (spelled .not-given .1 (w .0), others .1 (w .1)),
     )
 
 -- ---- a call whose rules are these in words
