@@ -24,11 +24,8 @@ entry c = lent (lent-own c) .before .before
 abbrev rows : tie.Start → List Row
 rows c = readRows (c .args .bytes .now) (length (c .args .gates .now)) (length (c .args .vectors .now))
 
-abbrev given-back : tie.After-slice-known6 → tie.After-own-gates
-given-back c = c .before .before .before
-
 abbrev checked : tie.After-slice-known6 → tie.After-check-read
-checked c = given-back c .before
+checked c = c .before .before .before .before
 
 passed : (c : tie.After-enum-told) → fine ≡ firstOf (rows (entry (checked (c .before .before)))) fine
 passed c = ap found (sym (c .enum-told .given .1)) ∙ checked (c .before .before) .check-read .ensures
