@@ -30,6 +30,36 @@ use Rattle.demands.proofs.Answering.{Ended}
 abbrev pub Lent : ℕ → List ℕ → ℕ → List ℕ → Type 0
 Lent n words m others = (m ≡ n) × (others ≡ words)
 
+-- ---- what is said of a set that was written for a circuit of n lines
+
+-- S is n (d + 1), and there are at most 2 + floor(log2 S) vectors
+abbrev pub AtMost : ℕ → List ℕ → ℕ → Type 0
+AtMost n words k = (gs : List Gate) × Circuit n words gs
+    × ((log : ℕ) × (2 ^ log ≤ n * suc (length gs)) × (n * suc (length gs) < 2 ^ suc log) × (k ≤ 2 + log))
+
+-- each is the smallest input that catches the most of the stuck-at faults that those before it leave, and at least half; none is left in the end
+abbrev pub ByTheRule : ℕ → List ℕ → List ℕ → Type 0
+ByTheRule n words written = (gs : List Gate) × Circuit n words gs × ((faults : List Fault) × Class n gs 1 faults × Picks n gs faults written)
+
+-- every stuck-at fault that the circuit has is caught by some vector of it
+abbrev pub SingleCaught : ℕ → List ℕ → List ℕ → Type 0
+SingleCaught n words written = (gs : List Gate) × Circuit n words gs × EveryCaught n gs 1 written
+
+-- and so is every multiple one, of 1 to 256 entries
+abbrev pub MultipleCaught : ℕ → List ℕ → List ℕ → Type 0
+MultipleCaught n words written = (gs : List Gate) × Circuit n words gs
+    × ((fs : List Fault) → Multiple n gs fs → (v : ℕ) × List·Memᴰ v written × CaughtTogether gs fs v)
+
+-- where it was made as `MakesCompact` says, all of that holds
+pub made-so : (n : ℕ) (words old left : List ℕ) (k : ℕ) → MakesCompact n words old (k ∷ []) left
+    → AtMost n words k × ByTheRule n words (take k left) × SingleCaught n words (take k left) × MultipleCaught n words (take k left)
+made-so n words old left k is = (
+  (is .gs, is .circuit, (is .log, is .log-below, is .log-above, compact-few _ _ _ _ k is)),
+  (is .gs, is .circuit, (is .faults, is .stuck-at, compact-picks _ _ _ _ k is)),
+  (is .gs, is .circuit, compact-catches _ _ _ _ k is),
+  (is .gs, is .circuit, compact-together _ _ _ _ k is),
+)
+
 -- ---- the set as the contract of `compact_set` allows it: k vectors at the front of the room
 
 module _ (made : Ended compact-set.Post) (k : ℕ) (told : toldMade (made .result) ≡ answered (k ∷ [])) where
@@ -52,22 +82,17 @@ module _ (made : Ended compact-set.Post) (k : ℕ) (told : toldMade (made .resul
   is : MakesCompact n words old (k ∷ []) left
   is = compact-set-means .as-said made (k ∷ []) told
 
-  -- S is n (d + 1), and there are at most 2 + floor(log2 S) vectors
-  pub at-most : (gs : List Gate) × Circuit n words gs
-      × ((log : ℕ) × (2 ^ log ≤ n * suc (length gs)) × (n * suc (length gs) < 2 ^ suc log) × (k ≤ 2 + log))
-  at-most = (is .gs, is .circuit, (is .log, is .log-below, is .log-above, compact-few _ _ _ _ k is))
+  pub at-most : AtMost n words k
+  at-most = made-so n words old left k is .0
 
-  -- each is the smallest input that catches the most of the stuck-at faults that those before it leave, and at least half; none is left in the end
-  pub by-the-rule : (gs : List Gate) × Circuit n words gs × ((faults : List Fault) × Class n gs 1 faults × Picks n gs faults written)
-  by-the-rule = (is .gs, is .circuit, (is .faults, is .stuck-at, compact-picks _ _ _ _ k is))
+  pub by-the-rule : ByTheRule n words written
+  by-the-rule = made-so n words old left k is .1
 
-  -- every stuck-at fault that the circuit has is caught by some vector of the set, and so is every multiple one, of 1 to 256 entries
-  pub single-caught : (gs : List Gate) × Circuit n words gs × EveryCaught n gs 1 written
-  single-caught = (is .gs, is .circuit, compact-catches _ _ _ _ k is)
+  pub single-caught : SingleCaught n words written
+  single-caught = made-so n words old left k is .2
 
-  pub multiple-caught : (gs : List Gate) × Circuit n words gs
-      × ((fs : List Fault) → Multiple n gs fs → (v : ℕ) × List·Memᴰ v written × CaughtTogether gs fs v)
-  multiple-caught = (is .gs, is .circuit, compact-together _ _ _ _ k is)
+  pub multiple-caught : MultipleCaught n words written
+  multiple-caught = made-so n words old left k is .3
 
   -- and by what is told: every single stuck-at fault that `catches` takes with this circuit, whatever vector it was asked with, is told as caught
   -- with some vector of the set

@@ -1,30 +1,25 @@
 -- Demand 3 for the C calls: the set that `nuf_compact_set` leaves in the room, where its number is 0, by what `nuf_catches` and
 -- `nuf_catches_multiple` tell of its vectors.
-use Prim.Native.Nat.{ℕ, suc, _+_, _*_, _^_, _≤_, _<_}
+use Prim.Native.Nat.{ℕ}
 use mathlib.Core.Path.{_≡_, refl, sym, _∙_}
 use mathlib.Core.List.{List, [], _∷_, List·Memᴰ}
-use lib.ListN.{length, take}
+use lib.ListN.{take}
 use denote.Ref.{now}
 use Rattle.refusals.specs.Tables.{Told, firstOf}
 use Rattle.refusals.specs.Checks.{fine}
 use Rattle.refusals.proofs.Tables.{answered-fine}
-use Rattle.circuit.specs.declared.Gate.{Gate}
 use Rattle.simulator.specs.Rules.{catchRows}
 use Rattle.simulator.specs.Rules.{multipleRows}
-use Rattle.faults.specs.declared.Fault.{Fault}
 use Rattle.nufsadeem.proofs.nuf_catches.Reads as catches
 use Rattle.nufsadeem.proofs.nuf_catches_multiple.Reads as catches-multiple
 use Rattle.answers.specs.declared.Catch.{Catch}
 use Rattle.nufsadeem.proofs.nuf_compact_set.Reads as compact-set
-use Rattle.demands.proofs.Machine.{Circuit, CaughtTogether, Multiple}
-use Rattle.demands.proofs.FaultLists.{Class, Picks}
-use Rattle.demands.proofs.Completeness.{EveryCaught}
-use Rattle.demands.proofs.SetsCatch.{compact-single, compact-multiple, compact-few, compact-picks, compact-catches, compact-together}
+use Rattle.demands.proofs.SetsCatch.{compact-single, compact-multiple}
 use Rattle.demands.proofs.Sets.{MakesCompact, compact-set-in-c}
 use Rattle.demands.proofs.Answering.{Ended}
 use Rattle.demands.proofs.InC.{toldBy, tells-answer, told-in-c}
 use Rattle.demands.proofs.Demand1OfC as refusing
-use Rattle.demands.proofs.Demand3.{Lent}
+use Rattle.demands.proofs.Demand3.{Lent, AtMost, ByTheRule, SingleCaught, MultipleCaught, made-so}
 
 -- what a struct tells
 abbrev tells : Catch → Told
@@ -53,19 +48,17 @@ module _ (made : Ended compact-set.Post) (zero : made .result .number ≡ 0) whe
   is : MakesCompact n words old (k ∷ []) left
   is = compact-set-in-c .as-said made zero
 
-  pub at-most : (gs : List Gate) × Circuit n words gs
-      × ((log : ℕ) × (2 ^ log ≤ n * suc (length gs)) × (n * suc (length gs) < 2 ^ suc log) × (k ≤ 2 + log))
-  at-most = (is .gs, is .circuit, (is .log, is .log-below, is .log-above, compact-few _ _ _ _ k is))
+  pub at-most : AtMost n words k
+  at-most = made-so n words old left k is .0
 
-  pub by-the-rule : (gs : List Gate) × Circuit n words gs × ((faults : List Fault) × Class n gs 1 faults × Picks n gs faults written)
-  by-the-rule = (is .gs, is .circuit, (is .faults, is .stuck-at, compact-picks _ _ _ _ k is))
+  pub by-the-rule : ByTheRule n words written
+  by-the-rule = made-so n words old left k is .1
 
-  pub single-caught : (gs : List Gate) × Circuit n words gs × EveryCaught n gs 1 written
-  single-caught = (is .gs, is .circuit, compact-catches _ _ _ _ k is)
+  pub single-caught : SingleCaught n words written
+  single-caught = made-so n words old left k is .2
 
-  pub multiple-caught : (gs : List Gate) × Circuit n words gs
-      × ((fs : List Fault) → Multiple n gs fs → (v : ℕ) × List·Memᴰ v written × CaughtTogether gs fs v)
-  multiple-caught = (is .gs, is .circuit, compact-together _ _ _ _ k is)
+  pub multiple-caught : MultipleCaught n words written
+  multiple-caught = made-so n words old left k is .3
 
   pub every-single : (asked : Ended catches.Post)
       → let (lines, (gates, (_, (fault, _)))) = asked .inputs in

@@ -44,6 +44,7 @@ pub mod RuleWords
 pub mod RulesInWords
 pub mod RuleOfSites
 pub mod RulesTold
+pub mod RuleTables
 pub mod Rules
 pub mod RulesOfC
 pub mod ImagesPromised

@@ -1,156 +1,80 @@
--- The rules of each call in words, in the order in which they are asked. `Asks call rules`: it refuses with number k and place p exactly if rule k
--- is the first of them that is given, with place p, and answers exactly if all are kept. `circuitAsked` has those of a circuit, 3, 5 and 7.
--- The room of a compact set is `bound`, which `Accepting` says in words: 2 + floor(log2 S).
-use Prim.Native.Nat.{_+_, _/_}
-use mathlib.Core.Path.{ap}
-use mathlib.Core.List.{[], _∷_, _++_}
+-- The rules of each call in words. `Asks call rules`: it refuses with number k and place p exactly if rule k is the first of them that is given, with
+-- place p, and answers exactly if all are kept.
 use lib.ListN.{length}
 use denote.Ref.{now}
-use Rattle.circuit.specs.Gates.{gatesOf}
-use Rattle.circuit.specs.Rules.{circuitSetRows, circuitRows, setRows, vectorRows, levelRows, runRows}
-use Rattle.circuit.proofs.GateLaws.{gates-count}
-use Rattle.faults.specs.Rules.{faultRows}
-use Rattle.faults.specs.Records.{faultsOf}
-use Rattle.faults.specs.Multiple.{entriesRows}
-use Rattle.simulator.specs.Rules.{catchRows, testRows, multipleRows}
-use Rattle.judge.specs.Rules.{classRows, judgeRows, countRows}
-use Rattle.dropping.specs.Rules.{recordRows, dropRows, dropRecordsRows}
-use Rattle.testsets.specs.Sets.{bound}
-use Rattle.testsets.specs.Rules.{backwardRows, compactRows}
-use Rattle.report_text.specs.Report.{reportText}
-use Rattle.report_text.specs.Rules.{reportRows}
-use Rattle.demands.proofs.RulesInWords.{OneVector, Vectors, OneLevel, OneFault, OneClass, Records, PlainRecords, Entries, FewLines, Room}
-use Rattle.demands.proofs.RulesInWords.{circuitAsked, readAsked, read-spelled, writeAsked, write-spelled}
-use Rattle.demands.proofs.RulesInWords.{lines-rule, whole-rule, gates-rule, vector-rule, vectors-rule, level-rule, fault-rule, class-rule}
-use Rattle.demands.proofs.RulesInWords.{records-rule, plain-records-rule, entries-rule, few-lines-rule, room-rule, room-as-rule}
-use Rattle.demands.proofs.RuleOfSites.{EntryCount, entry-count-rule}
+use Rattle.demands.proofs.RuleTables.{runAsked, catchAsked, multipleAsked, testAsked, judgeAsked, addAsked, countAsked}
+use Rattle.demands.proofs.RuleTables.{dropAsked, dropRecordsAsked, backwardSetAsked, compactSetAsked, readAsked, writeAsked, reportAsked}
+use Rattle.demands.proofs.RuleTables.{run-spelled, catch-spelled, multiple-spelled, test-spelled, judge-spelled, add-spelled, count-spelled}
+use Rattle.demands.proofs.RuleTables.{drop-spelled, drop-records-spelled, backward-set-spelled, compact-set-spelled}
+use Rattle.demands.proofs.RuleTables.{read-spelled, write-spelled, report-spelled}
 use Rattle.demands.proofs.RulesTold.{Asks, by-words}
-use Rattle.demands.proofs.RulesTold.Asked.{rule_asks_}
-use Rattle.demands.proofs.RulesTold.Spelled.{_then_, done}
 use Rattle.demands.proofs.Demand1 as calls
 
 -- circuit
 
-pub forward-asks : Asks calls.forward-refuses (λ κs (lines, (gates, (level, (state, _)))).
-    circuitAsked lines (now gates) 0
-    ++ (rule 8 asks OneVector lines state ∷ rule 12 asks OneLevel (length (now gates) / 3) level ∷ []))
-unfolding runRows levelRows vectorRows circuitRows circuitSetRows
-forward-asks = by-words calls.forward-refuses (λ κs a.
-    lines-rule _ then whole-rule _ _ then gates-rule _ _ then vector-rule _ _ then level-rule _ _ then done)
+pub forward-asks : Asks calls.forward-refuses (λ κs (lines, (gates, (level, (state, _)))). runAsked lines (now gates) level state)
+forward-asks = by-words calls.forward-refuses (λ κs a. run-spelled _ _ _ _)
 
-pub backward-asks : Asks calls.backward-refuses (λ κs (lines, (gates, (level, (state, _)))).
-    circuitAsked lines (now gates) 0
-    ++ (rule 8 asks OneVector lines state ∷ rule 12 asks OneLevel (length (now gates) / 3) level ∷ []))
-unfolding runRows levelRows vectorRows circuitRows circuitSetRows
-backward-asks = by-words calls.backward-refuses (λ κs a.
-    lines-rule _ then whole-rule _ _ then gates-rule _ _ then vector-rule _ _ then level-rule _ _ then done)
+pub backward-asks : Asks calls.backward-refuses (λ κs (lines, (gates, (level, (state, _)))). runAsked lines (now gates) level state)
+backward-asks = by-words calls.backward-refuses (λ κs a. run-spelled _ _ _ _)
 
 -- simulator
 
-pub faulty-run-asks : Asks calls.faulty-run-refuses (λ κs (lines, (gates, (vector, (fault, _)))).
-    circuitAsked lines (now gates) 0
-    ++ (rule 8 asks OneVector lines vector ∷ rule 9 asks OneFault lines (gatesOf (now gates)) fault ∷ []))
-unfolding catchRows faultRows vectorRows circuitRows circuitSetRows
-faulty-run-asks = by-words calls.faulty-run-refuses (λ κs a.
-    lines-rule _ then whole-rule _ _ then gates-rule _ _ then vector-rule _ _ then fault-rule _ _ _ then done)
+pub faulty-run-asks : Asks calls.faulty-run-refuses (λ κs (lines, (gates, (vector, (fault, _)))). catchAsked lines (now gates) vector fault)
+faulty-run-asks = by-words calls.faulty-run-refuses (λ κs a. catch-spelled _ _ _ _)
 
-pub catches-asks : Asks calls.catches-refuses (λ κs (lines, (gates, (vector, (fault, _)))).
-    circuitAsked lines (now gates) 0
-    ++ (rule 8 asks OneVector lines vector ∷ rule 9 asks OneFault lines (gatesOf (now gates)) fault ∷ []))
-unfolding catchRows faultRows vectorRows circuitRows circuitSetRows
-catches-asks = by-words calls.catches-refuses (λ κs a.
-    lines-rule _ then whole-rule _ _ then gates-rule _ _ then vector-rule _ _ then fault-rule _ _ _ then done)
+pub catches-asks : Asks calls.catches-refuses (λ κs (lines, (gates, (vector, (fault, _)))). catchAsked lines (now gates) vector fault)
+catches-asks = by-words calls.catches-refuses (λ κs a. catch-spelled _ _ _ _)
 
-pub catches-multiple-asks : Asks calls.catches-multiple-refuses (λ κs (lines, (gates, (vector, (entries, _)))).
-    circuitAsked lines (now gates) 0
-    ++ (rule 8 asks OneVector lines vector ∷ rule 9 asks Entries lines (gatesOf (now gates)) (now entries)
-    ∷ rule 13 asks EntryCount (faultsOf (now entries)) ∷ []))
-unfolding multipleRows entriesRows vectorRows circuitRows circuitSetRows
-catches-multiple-asks = by-words calls.catches-multiple-refuses (λ κs (_, (_, (_, (entries, _)))).
-    lines-rule _ then whole-rule _ _ then gates-rule _ _ then vector-rule _ _ then entries-rule _ _ _
-    then entry-count-rule (faultsOf (now entries)) then done)
+pub catches-multiple-asks : Asks calls.catches-multiple-refuses
+    (λ κs (lines, (gates, (vector, (entries, _)))). multipleAsked lines (now gates) vector (now entries))
+catches-multiple-asks = by-words calls.catches-multiple-refuses (λ κs a. multiple-spelled _ _ _ _)
 
-pub test-for-asks : Asks calls.test-for-refuses (λ κs (lines, (gates, (fault, _))).
-    circuitAsked lines (now gates) 0 ++ (rule 9 asks OneFault lines (gatesOf (now gates)) fault ∷ []))
-unfolding testRows faultRows circuitRows circuitSetRows
-test-for-asks = by-words calls.test-for-refuses (λ κs a.
-    lines-rule _ then whole-rule _ _ then gates-rule _ _ then fault-rule _ _ _ then done)
+pub test-for-asks : Asks calls.test-for-refuses (λ κs (lines, (gates, (fault, _))). testAsked lines (now gates) fault)
+test-for-asks = by-words calls.test-for-refuses (λ κs a. test-spelled _ _ _)
 
 -- judge
 
-pub judge-asks : Asks calls.judge-refuses (λ κs (lines, (gates, (vectors, (class, _)))).
-    circuitAsked lines (now gates) (length (now vectors))
-    ++ (rule 8 asks Vectors lines (now vectors) ∷ rule 9 asks OneClass class ∷ []))
-unfolding judgeRows setRows classRows circuitSetRows
-judge-asks = by-words calls.judge-refuses (λ κs a.
-    lines-rule _ then whole-rule _ _ then gates-rule _ _ then vectors-rule _ _ then class-rule _ then done)
+pub judge-asks : Asks calls.judge-refuses (λ κs (lines, (gates, (vectors, (class, _)))). judgeAsked lines (now gates) (now vectors) class)
+judge-asks = by-words calls.judge-refuses (λ κs a. judge-spelled _ _ _ _)
 
-pub coverage-with-vector-asks : Asks calls.coverage-with-vector-refuses (λ κs (_, (lines, (gates, (vector, _)))).
-    circuitAsked lines (now gates) 0 ++ (rule 8 asks OneVector lines vector ∷ []))
-unfolding vectorRows circuitRows circuitSetRows
-coverage-with-vector-asks = by-words calls.coverage-with-vector-refuses (λ κs a.
-    lines-rule _ then whole-rule _ _ then gates-rule _ _ then vector-rule _ _ then done)
+pub coverage-with-vector-asks : Asks calls.coverage-with-vector-refuses (λ κs (_, (lines, (gates, (vector, _)))). addAsked lines (now gates) vector)
+coverage-with-vector-asks = by-words calls.coverage-with-vector-refuses (λ κs a. add-spelled _ _ _)
 
-pub coverage-count-asks : Asks calls.coverage-count-refuses (λ κs (_, (lines, (gates, (class, _)))).
-    circuitAsked lines (now gates) 0 ++ (rule 9 asks OneClass class ∷ []))
-unfolding countRows classRows circuitRows circuitSetRows
-coverage-count-asks = by-words calls.coverage-count-refuses (λ κs a.
-    lines-rule _ then whole-rule _ _ then gates-rule _ _ then class-rule _ then done)
+pub coverage-count-asks : Asks calls.coverage-count-refuses (λ κs (_, (lines, (gates, (class, _)))). countAsked lines (now gates) class)
+coverage-count-asks = by-words calls.coverage-count-refuses (λ κs a. count-spelled _ _ _)
 
-pub cover-asks : Asks calls.cover-refuses (λ κs (lines, (gates, (vectors, (class, _)))).
-    circuitAsked lines (now gates) (length (now vectors))
-    ++ (rule 8 asks Vectors lines (now vectors) ∷ rule 9 asks OneClass class ∷ []))
-unfolding judgeRows setRows classRows circuitSetRows
-cover-asks = by-words calls.cover-refuses (λ κs a.
-    lines-rule _ then whole-rule _ _ then gates-rule _ _ then vectors-rule _ _ then class-rule _ then done)
+pub cover-asks : Asks calls.cover-refuses (λ κs (lines, (gates, (vectors, (class, _)))). judgeAsked lines (now gates) (now vectors) class)
+cover-asks = by-words calls.cover-refuses (λ κs a. judge-spelled _ _ _ _)
 
 -- dropping
 
-pub drop-asks : Asks calls.drop-refuses (λ κs (lines, (gates, (vector, (list, _)))).
-    circuitAsked lines (now gates) 0
-    ++ (rule 8 asks OneVector lines vector ∷ rule 9 asks PlainRecords lines (gatesOf (now gates)) (now list) ∷ []))
-unfolding dropRows recordRows vectorRows circuitRows circuitSetRows
-drop-asks = by-words calls.drop-refuses (λ κs a.
-    lines-rule _ then whole-rule _ _ then gates-rule _ _ then vector-rule _ _ then plain-records-rule _ _ _ then done)
+pub drop-asks : Asks calls.drop-refuses (λ κs (lines, (gates, (vector, (list, _)))). dropAsked lines (now gates) vector (now list))
+drop-asks = by-words calls.drop-refuses (λ κs a. drop-spelled _ _ _ _)
 
-pub drop-records-asks : Asks calls.drop-records-refuses (λ κs (lines, (gates, (vector, (list, _)))).
-    circuitAsked lines (now gates) 0
-    ++ (rule 8 asks OneVector lines vector ∷ rule 9 asks Records lines (gatesOf (now gates)) (now list) ∷ []))
-unfolding dropRecordsRows recordRows vectorRows circuitRows circuitSetRows
-drop-records-asks = by-words calls.drop-records-refuses (λ κs a.
-    lines-rule _ then whole-rule _ _ then gates-rule _ _ then vector-rule _ _ then records-rule _ _ _ then done)
+pub drop-records-asks : Asks calls.drop-records-refuses
+    (λ κs (lines, (gates, (vector, (list, _)))). dropRecordsAsked lines (now gates) vector (now list))
+drop-records-asks = by-words calls.drop-records-refuses (λ κs a. drop-records-spelled _ _ _ _)
 
 -- testsets
 
-pub backward-set-asks : Asks calls.backward-set-refuses (λ κs (lines, (gates, (room, _))).
-    circuitAsked lines (now gates) 0 ++ (rule 10 asks Room (length (now gates) / 3 + 2) (length (now room)) ∷ []))
-unfolding backwardRows circuitRows circuitSetRows
-backward-set-asks = by-words calls.backward-set-refuses (λ κs a.
-    lines-rule _ then whole-rule _ _ then gates-rule _ _ then room-as-rule _ _ _ (ap (λ d. d + 2) (gates-count _)) then done)
+pub backward-set-asks : Asks calls.backward-set-refuses (λ κs (lines, (gates, (room, _))). backwardSetAsked lines (now gates) (length (now room)))
+backward-set-asks = by-words calls.backward-set-refuses (λ κs a. backward-set-spelled _ _ _)
 
-pub compact-set-asks : Asks calls.compact-set-refuses (λ κs (lines, (gates, (room, _))).
-    circuitAsked lines (now gates) 0
-    ++ (rule 11 asks FewLines lines ∷ rule 10 asks Room (bound lines (gatesOf (now gates))) (length (now room)) ∷ []))
-unfolding compactRows circuitRows circuitSetRows
-compact-set-asks = by-words calls.compact-set-refuses (λ κs a.
-    lines-rule _ then whole-rule _ _ then gates-rule _ _ then few-lines-rule _ then room-rule _ _ then done)
+pub compact-set-asks : Asks calls.compact-set-refuses (λ κs (lines, (gates, (room, _))). compactSetAsked lines (now gates) (length (now room)))
+compact-set-asks = by-words calls.compact-set-refuses (λ κs a. compact-set-spelled _ _ _)
 
 -- job
 
-pub read-job-asks : Asks calls.read-job-refuses (λ κs (bytes, (gates, (vectors, _))).
-    readAsked (now bytes) (length (now gates)) (length (now vectors)))
-read-job-asks = by-words calls.read-job-refuses (λ κs a.
-    read-spelled _ _ _)
+pub read-job-asks : Asks calls.read-job-refuses
+    (λ κs (bytes, (gates, (vectors, _))). readAsked (now bytes) (length (now gates)) (length (now vectors)))
+read-job-asks = by-words calls.read-job-refuses (λ κs a. read-spelled _ _ _)
 
-pub write-job-asks : Asks calls.write-job-refuses (λ κs (lines, (classes, (gates, (vectors, (out, _))))).
-    writeAsked lines classes (now gates) (now vectors) (length (now out)))
-write-job-asks = by-words calls.write-job-refuses (λ κs a.
-    write-spelled _ _ _ _ _)
+pub write-job-asks : Asks calls.write-job-refuses
+    (λ κs (lines, (classes, (gates, (vectors, (out, _))))). writeAsked lines classes (now gates) (now vectors) (length (now out)))
+write-job-asks = by-words calls.write-job-refuses (λ κs a. write-spelled _ _ _ _ _)
 
 -- report_text
 
-pub report-asks : Asks calls.report-refuses (λ κs (bytes, (out, _)).
-    rule 10 asks Room (length (reportText (now bytes))) (length (now out)) ∷ [])
-unfolding reportRows
-report-asks = by-words calls.report-refuses (λ κs a.
-    room-rule _ _ then done)
+pub report-asks : Asks calls.report-refuses (λ κs (bytes, (out, _)). reportAsked (now bytes) (length (now out)))
+report-asks = by-words calls.report-refuses (λ κs a. report-spelled _ _)

@@ -22,18 +22,14 @@ use Rattle.faults.specs.declared.Fault.{Fault}
 use Rattle.faults.specs.Classes.{isClass}
 use Rattle.dropping.specs.Rules.{badRecord}
 use Rattle.job.specs.Bytes.{numberAt, wordsAt}
-use Rattle.job.specs.Image.{gateCount, linesIn, classesIn, gatesIn, vectorsIn, gateWords, vectorWords}
-use Rattle.job.specs.Rules.{badClasses, badSizes, headerRows, contentRows, readRows, writeRows}
-use Rattle.job.proofs.ImageLaws.{length-image}
+use Rattle.job.specs.Image.{gatesIn, vectorsIn}
+use Rattle.job.specs.Rules.{badClasses, badSizes}
 use Rattle.demands.proofs.Machine.{Control, Has}
 use Rattle.demands.proofs.MachineLaws.{control-iff}
 use Rattle.demands.proofs.HasLaws.{has-of, of-has}
 use Rattle.demands.proofs.ValidLists.{record-valid, entry-valid}
 use Rattle.demands.proofs.RuleWords.{Words, InWords, OfOne, OfList, AsWord, of-one, of-list, in-word, nothing-left, always-whole}
 use Rattle.demands.proofs.RuleWords.{same-iff, failing, passing, either, neither, not-both, both}
-use Rattle.demands.proofs.RulesTold.{Asked, Spelled}
-use Rattle.demands.proofs.RulesTold.Asked.{rule_asks_}
-use Rattle.demands.proofs.RulesTold.Spelled.{_then_, done}
 
 -- what a test of order says
 at-least : (a b : ℕ) → (leb a b ≡ true) ↔ (a ≤ b)
@@ -110,7 +106,7 @@ room-as-rule needed other room same = subst (λ k. InWords 0 (ltb room k) (Room 
 abbrev pub TwoRooms : ℕ → ℕ → ℕ → ℕ → Words
 TwoRooms needed room needed′ room′ = OfOne 0 ((room < needed) ⊎ (room′ < needed′)) ((needed ≤ room) × (needed′ ≤ room′))
 
-two-rooms-rule : (needed room needed′ room′ : ℕ) → InWords 0 (ltb room needed || ltb room′ needed′) (TwoRooms needed room needed′ room′)
+pub two-rooms-rule : (needed room needed′ room′ : ℕ) → InWords 0 (ltb room needed || ltb room′ needed′) (TwoRooms needed room needed′ room′)
 two-rooms-rule needed room needed′ room′ = of-one 0 (ltb room needed || ltb room′ needed′)
     (either (ltb room needed) (ltb room′ needed′) (less room needed) (less room′ needed′))
     (neither (ltb room needed) (ltb room′ needed′) (no-less room needed) (no-less room′ needed′))
@@ -230,11 +226,6 @@ entries-rule n gs list = in-word
     (of-list (badEntry n gs) (not (eqb (length list % 4) 0)) noFault (faultsOf list) (λ f. passing _ (entry-valid n gs f)) (entry-valid n gs)
     (not-eqb-iff (length list % 4) 0) (same-iff (length list % 4) 0))
 
--- ---- the rules of a circuit of n lines, with m vectors
-
-abbrev pub circuitAsked : ℕ → List ℕ → ℕ → List Asked
-circuitAsked n words m = rule 3 asks Lines n ∷ rule 5 asks Counts (length words / 3) m ∷ rule 7 asks Gates n words ∷ []
-
 -- ---- a job that is read: its numbers from its bytes, the lowest byte first
 
 abbrev pub two : List ℕ → ℕ → ℕ
@@ -247,15 +238,15 @@ abbrev pub wordsFrom : ℕ → List ℕ → ℕ → List ℕ
 wordsFrom zero bytes at = []
 wordsFrom (suc count) bytes at = four bytes at ∷ wordsFrom count bytes (at + 4)
 
-number-two : (bytes : List ℕ) (at : ℕ) → numberAt 2 bytes at ≡ two bytes at
+pub number-two : (bytes : List ℕ) (at : ℕ) → numberAt 2 bytes at ≡ two bytes at
 unfolding numberAt
 number-two bytes at = omega arith
 
-number-four : (bytes : List ℕ) (at : ℕ) → numberAt 4 bytes at ≡ four bytes at
+pub number-four : (bytes : List ℕ) (at : ℕ) → numberAt 4 bytes at ≡ four bytes at
 unfolding numberAt
 number-four bytes at = omega arith
 
-words-from : (count : ℕ) (bytes : List ℕ) (at : ℕ) → wordsAt count bytes at ≡ wordsFrom count bytes at
+pub words-from : (count : ℕ) (bytes : List ℕ) (at : ℕ) → wordsAt count bytes at ≡ wordsFrom count bytes at
 unfolding wordsAt
 words-from zero bytes at = refl
 words-from (suc count) bytes at = ap₂ _∷_ (number-four bytes at) (words-from count bytes (at + 4))
@@ -269,7 +260,7 @@ Sizes bytes =
     ((four bytes 16 ≢ 28) ⊎ ((four bytes 20 ≢ 28 + 12 * d) ⊎ ((four bytes 24 ≢ 28 + 12 * d + 4 * m) ⊎ (length bytes ≢ 28 + 12 * d + 4 * m))))
     ((four bytes 16 ≡ 28) × ((four bytes 20 ≡ 28 + 12 * d) × ((four bytes 24 ≡ 28 + 12 * d + 4 * m) × (length bytes ≡ 28 + 12 * d + 4 * m))))
 
-sizes-rule : (bytes : List ℕ) → InWords 0 (badSizes bytes) (Sizes bytes)
+pub sizes-rule : (bytes : List ℕ) → InWords 0 (badSizes bytes) (Sizes bytes)
 unfolding badSizes gatesIn vectorsIn
 sizes-rule bytes =
     let d = four bytes 8 in
@@ -289,13 +280,13 @@ sizes-rule bytes =
 abbrev pub Short : List ℕ → Words
 Short bytes = OfOne 0 (length bytes < 28) (28 ≤ length bytes)
 
-short-rule : (bytes : List ℕ) → InWords 0 (ltb (length bytes) 28) (Short bytes)
+pub short-rule : (bytes : List ℕ) → InWords 0 (ltb (length bytes) 28) (Short bytes)
 short-rule bytes = of-one 0 (ltb (length bytes) 28) (less (length bytes) 28) (no-less (length bytes) 28)
 
 abbrev pub Form : List ℕ → Words
 Form bytes = OfOne 0 (two bytes 0 ≢ 1) (two bytes 0 ≡ 1)
 
-form-rule : (bytes : List ℕ) → InWords 0 (not (eqb (two bytes 0) 1)) (Form bytes)
+pub form-rule : (bytes : List ℕ) → InWords 0 (not (eqb (two bytes 0) 1)) (Form bytes)
 form-rule bytes = of-one 0 (not (eqb (two bytes 0) 1)) (not-eqb-iff (two bytes 0) 1) (same-iff (two bytes 0) 1)
 
 abbrev pub ClassesIn : List ℕ → Words
@@ -303,60 +294,10 @@ ClassesIn bytes =
     let k = two bytes 4 in
     OfOne 0 (((k ≡ 0) ⊎ (15 < k)) ⊎ (two bytes 6 ≢ 0)) (((k ≢ 0) × (k ≤ 15)) × (two bytes 6 ≡ 0))
 
-classes-in-rule : (bytes : List ℕ) → InWords 0 (badClasses (two bytes 4) || not (eqb (two bytes 6) 0)) (ClassesIn bytes)
+pub classes-in-rule : (bytes : List ℕ) → InWords 0 (badClasses (two bytes 4) || not (eqb (two bytes 6) 0)) (ClassesIn bytes)
 unfolding badClasses
 classes-in-rule bytes =
     let k = two bytes 4 in
     of-one 0 ((eqb k 0 || ltb 15 k) || not (eqb (two bytes 6) 0))
     (either (eqb k 0 || ltb 15 k) _ (either (eqb k 0) (ltb 15 k) (equal k 0) (less 15 k)) (not-eqb-iff (two bytes 6) 0))
     (neither (eqb k 0 || ltb 15 k) _ (neither (eqb k 0) (ltb 15 k) (other k 0) (no-less 15 k)) (same-iff (two bytes 6) 0))
-
--- the rules of reading: header, gates and vectors, room
-abbrev pub readAsked : List ℕ → ℕ → ℕ → List Asked
-readAsked bytes gateRoom vectorRoom =
-    let n = two bytes 2 in
-    let d = four bytes 8 in
-    let m = four bytes 12 in
-    rule 1 asks Short bytes ∷
-    rule 2 asks Form bytes ∷
-    rule 3 asks Lines n ∷
-    rule 4 asks ClassesIn bytes ∷
-    rule 5 asks Counts d m ∷
-    rule 6 asks Sizes bytes ∷
-    rule 7 asks Gates n (wordsFrom (3 * d) bytes 28) ∷
-    rule 8 asks Vectors n (wordsFrom m bytes (28 + 12 * d)) ∷
-    rule 10 asks TwoRooms (3 * d) gateRoom m vectorRoom ∷ []
-
-pub read-spelled : (bytes : List ℕ) (gateRoom vectorRoom : ℕ) → Spelled (readRows bytes gateRoom vectorRoom) (readAsked bytes gateRoom vectorRoom)
-unfolding readRows headerRows contentRows linesIn classesIn gatesIn vectorsIn gateWords vectorWords
-read-spelled bytes gateRoom vectorRoom =
-    let d = four bytes 8 in
-    let m = four bytes 12 in
-    rw (
-      number-two bytes 0,
-      number-two bytes 2,
-      number-two bytes 4,
-      number-two bytes 6,
-      number-four bytes 8,
-      number-four bytes 12,
-      words-from (3 * d) bytes 28,
-      words-from m bytes (28 + 12 * d),
-    ) (short-rule bytes then form-rule bytes then lines-rule _ then classes-in-rule bytes then counts-rule d m then sizes-rule bytes
-    then gates-rule _ _ then vectors-rule _ _ then two-rooms-rule (3 * d) gateRoom m vectorRoom then done)
-
--- and of writing
-abbrev pub writeAsked : ℕ → ℕ → List ℕ → List ℕ → ℕ → List Asked
-writeAsked n classes words xs room =
-    rule 3 asks Lines n ∷
-    rule 4 asks Classes classes ∷
-    rule 5 asks Counts (length words / 3) (length xs) ∷
-    rule 7 asks Gates n words ∷
-    rule 8 asks Vectors n xs ∷
-    rule 10 asks Room (28 + 4 * length words + 4 * length xs) room ∷ []
-
-pub write-spelled : (n classes : ℕ) (words xs : List ℕ) (room : ℕ)
-    → Spelled (writeRows n classes words xs room) (writeAsked n classes words xs room)
-unfolding writeRows contentRows gateCount
-write-spelled n classes words xs room =
-    lines-rule n then classes-rule classes then counts-rule (length words / 3) (length xs) then gates-rule n words then vectors-rule n xs
-    then room-as-rule _ _ room (length-image n classes words xs) then done
