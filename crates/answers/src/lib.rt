@@ -4,15 +4,17 @@ ghost use mathlib.Core.Path.{_≡_};
 ghost use mathlib.Core.List.{[], _∷_};
 ghost use Rattle.refusals.specs.Tables.Told.{answered, refused};
 ghost use Rattle.circuit.specs.Answers.{toldRan};
-ghost use Rattle.simulator.specs.Answers as simulated;
 ghost use Rattle.simulator.specs.Answers.{toldCaught};
+ghost use Rattle.fault_test.specs.Answers.{toldTest};
 ghost use Rattle.dropping.specs.Answers.{toldDropped};
-ghost use Rattle.testsets.specs.Answers as sets;
+ghost use Rattle.testsets.specs.Answers.{toldMade};
 ghost use Rattle.answers.specs.Fields.{fields};
 use circuit::Ran;
 use dropping::Dropped;
+use fault_test::Test;
 use refusals::Refusal;
 use simulator::Caught;
+use testsets::Made;
 
 pub mod jobs;
 pub mod verdicts;
@@ -91,16 +93,16 @@ pub fn catch_of(caught: Caught) -> Catch
 }
 
 // A test for a fault.
-pub fn vector_of(made: simulator::Made) -> Vector
-    ensures { λ r. ⌜ (r .number ∷ r .place ∷ r .vector ∷ []) ≡ fields 1 (simulated.toldMade made) ⌝ }
+pub fn vector_of(test: Test) -> Vector
+    ensures { λ r. ⌜ (r .number ∷ r .place ∷ r .vector ∷ []) ≡ fields 1 (toldTest test) ⌝ }
 {
-    match made {
-        simulator::Made::Vector(vector) => Vector {
+    match test {
+        Test::Vector(vector) => Vector {
             number: 0,
             place: 0,
             vector,
         },
-        simulator::Made::Refused(refusal) => Vector {
+        Test::Refused(refusal) => Vector {
             number: refusal.number,
             place: refusal.place,
             vector: 0,
@@ -131,12 +133,12 @@ pub fn none_counted(refusal: Refusal) -> Count
 }
 
 // A set that was made.
-pub fn made_of(made: testsets::Made) -> Count
-    ensures { λ r. ⌜ (r .number ∷ r .place ∷ r .count ∷ []) ≡ fields 1 (sets.toldMade made) ⌝ }
+pub fn made_of(made: Made) -> Count
+    ensures { λ r. ⌜ (r .number ∷ r .place ∷ r .count ∷ []) ≡ fields 1 (toldMade made) ⌝ }
 {
     match made {
-        testsets::Made::Count(count) => counted(count),
-        testsets::Made::Refused(refusal) => none_counted(refusal),
+        Made::Count(count) => counted(count),
+        Made::Refused(refusal) => none_counted(refusal),
     }
 }
 

@@ -29,12 +29,14 @@ use Rattle.faults.specs.Sites.{sites}
 use Rattle.faults.specs.Rules.{isStuckAt, isGate, isMissingGate, isMissingControl, isExtraControl, isFault}
 use Rattle.faults.specs.Records.{noFault}
 use Rattle.faults.specs.Rules.{faultRows}
-use Rattle.simulator.specs.Rules.{catchRows, testRows}
+use Rattle.simulator.specs.Rules.{catchRows}
+use Rattle.fault_test.specs.Rules.{testRows}
 use Rattle.faults.specs.Records.{faultsOf, firstBadRecord}
-use Rattle.simulator.specs.Faulty.{caughtTogether}
-use Rattle.faults.specs.Multiple.{badEntry, sameSite, siteTwice, entriesRows}
-use Rattle.simulator.specs.Rules.{multipleRows}
-use Rattle.simulator.specs.Tests.{testLevel, lineAtZero, testState, testFor}
+use Rattle.multiple_faults.specs.Multiple.{caughtTogether}
+use Rattle.multiple_faults.specs.Multiple.{badEntry, sameSite, siteTwice}
+use Rattle.multiple_faults.specs.Rules.{entriesRows}
+use Rattle.multiple_faults.specs.Rules.{multipleRows}
+use Rattle.fault_test.specs.Tests.{testLevel, lineAtZero, testState, testFor}
 use Rattle.faults.specs.Classes.{faultOf, stuckFaults, missingGates, missingControls, extraControls, classFaults, isClass}
 use Rattle.judge.specs.Judging.{caughtBySome, caughtOf, uncaughtOf, verdict}
 use Rattle.judge.specs.Coverages.{emptyCoverage, withVector, isMarked}

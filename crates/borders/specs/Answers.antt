@@ -10,17 +10,18 @@ use Rattle.refusals.specs.declared.Refusal.{Refusal}
 use Rattle.refusals.specs.declared.Checked.the-variants as checked
 use Rattle.circuit.specs.Answers.{toldRan}
 use Rattle.circuit.specs.declared.Ran.the-variants as ran
-use Rattle.simulator.specs.Answers.{toldOutput, toldCaught, toldMade}
+use Rattle.simulator.specs.Answers.{toldOutput, toldCaught}
+use Rattle.fault_test.specs.Answers.{toldTest}
 use Rattle.simulator.specs.declared.Output.the-variants as output
 use Rattle.simulator.specs.declared.Caught.the-variants as caught
-use Rattle.simulator.specs.declared.Made.the-variants as test
+use Rattle.fault_test.specs.declared.Test.the-variants as test
 use Rattle.judge.specs.Answers.{toldVerdict, toldBeside}
 use Rattle.marking.specs.Firsts.{toldFirst}
 use Rattle.judge.specs.declared.Verdict.the-variants as verdict
 use Rattle.marking.specs.declared.First.the-variants as first
 use Rattle.dropping.specs.Answers.{toldDropped}
 use Rattle.dropping.specs.declared.Dropped.the-variants as dropped
-use Rattle.testsets.specs.Answers as testsets
+use Rattle.testsets.specs.Answers.{toldMade}
 use Rattle.testsets.specs.declared.Made.the-variants as made
 use Rattle.job.specs.Answers.{toldRead, toldWritten}
 use Rattle.job.specs.declared.Read.the-variants as read
@@ -46,8 +47,8 @@ answerTable =
     toldCaught caught.Yes tells answered (1 ∷ []) ∷
     toldCaught caught.No tells answered (0 ∷ []) ∷
     toldCaught (caught.Refused seven) tells refused 7 2 ∷
-    toldMade (test.Vector 5) tells answered (5 ∷ []) ∷
-    toldMade (test.Refused seven) tells refused 7 2 ∷
+    toldTest (test.Vector 5) tells answered (5 ∷ []) ∷
+    toldTest (test.Refused seven) tells refused 7 2 ∷
     -- a verdict: number caught, number in the class, then 1 and four zeros, or 0 and class, place, line, value of a fault
     toldVerdict (verdict.Complete 2 3) tells answered (2 ∷ 3 ∷ 1 ∷ 0 ∷ 0 ∷ 0 ∷ 0 ∷ []) ∷
     toldVerdict (verdict.Left 2 3 (fault 4 5 6 7)) tells answered (2 ∷ 3 ∷ 0 ∷ 4 ∷ 5 ∷ 6 ∷ 7 ∷ []) ∷
@@ -65,8 +66,8 @@ answerTable =
     -- the number of records left, of vectors made, of bytes written
     toldDropped (dropped.Left 4) tells answered (4 ∷ []) ∷
     toldDropped (dropped.Refused seven) tells refused 7 2 ∷
-    testsets.toldMade (made.Count 4) tells answered (4 ∷ []) ∷
-    testsets.toldMade (made.Refused seven) tells refused 7 2 ∷
+    toldMade (made.Count 4) tells answered (4 ∷ []) ∷
+    toldMade (made.Refused seven) tells refused 7 2 ∷
     toldRead (read.Job 3 15 2 4) tells answered (3 ∷ 15 ∷ 2 ∷ 4 ∷ []) ∷
     toldRead (read.Refused seven) tells refused 7 2 ∷
     toldWritten (written.Bytes 64) tells answered (64 ∷ []) ∷

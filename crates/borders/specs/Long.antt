@@ -12,7 +12,9 @@ use Rattle.job.specs.Rules.{headerRows}
 use Rattle.borders.specs.Rows.{Row}
 use Rattle.borders.specs.Rows.Row.{_tells_, _gives_}
 use Rattle.circuit.specs.Promises.{forwardTells, backwardTells}
-use Rattle.simulator.specs.Promises.{outputTells, catchesTells, catchesMultipleTells, testForTells}
+use Rattle.simulator.specs.Promises.{outputTells, catchesTells}
+use Rattle.multiple_faults.specs.Promises.{catchesMultipleTells}
+use Rattle.fault_test.specs.Promises.{testForTells}
 use Rattle.judge.specs.Promises.{judgeTells, withVectorTells}
 use Rattle.borders.specs.Rows.{fault}
 use Rattle.judge.specs.Promises.{countTells}

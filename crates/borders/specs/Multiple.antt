@@ -5,7 +5,7 @@ use Rattle.refusals.specs.Places.{inWord}
 use Rattle.proved_samples.specs.Sample.{sampleWords}
 use Rattle.borders.specs.Rows.{Row}
 use Rattle.borders.specs.Rows.Row.{_tells_, _gives_}
-use Rattle.simulator.specs.Promises.{catchesMultipleTells}
+use Rattle.multiple_faults.specs.Promises.{catchesMultipleTells}
 
 unfoldable pub multipleTable : List Row
 multipleTable =

@@ -9,7 +9,9 @@ use Rattle.judge.specs.Coverages.{emptyCoverage}
 use Rattle.borders.specs.Rows.{Row}
 use Rattle.borders.specs.Rows.Row.{_tells_}
 use Rattle.circuit.specs.Promises.{forwardTells}
-use Rattle.simulator.specs.Promises.{catchesTells, catchesMultipleTells, testForTells}
+use Rattle.simulator.specs.Promises.{catchesTells}
+use Rattle.multiple_faults.specs.Promises.{catchesMultipleTells}
+use Rattle.fault_test.specs.Promises.{testForTells}
 use Rattle.judge.specs.Promises.{judgeTells, withVectorTells, countTells}
 use Rattle.borders.specs.Rows.{fault}
 use Rattle.dropping.specs.Promises.{dropTells, dropRecordsTells}

@@ -14,12 +14,13 @@ use Rattle.circuit.specs.Answers.{toldRan}
 use Rattle.circuit.specs.declared.Gate.{Gate}
 use Rattle.circuit.proofs.forward.Reads as forward
 use Rattle.circuit.proofs.backward.Reads as backward
-use Rattle.simulator.specs.Answers.{toldOutput, toldCaught, toldMade}
+use Rattle.simulator.specs.Answers.{toldOutput, toldCaught}
+use Rattle.fault_test.specs.Answers.{toldTest}
 use Rattle.faults.specs.declared.Fault.{Fault}
 use Rattle.simulator.proofs.faulty_run.Reads as faulty-run
 use Rattle.simulator.proofs.catches.Reads as catches
-use Rattle.simulator.proofs.catches_multiple.Reads as catches-multiple
-use Rattle.simulator.proofs.test_for.Reads as test-for
+use Rattle.multiple_faults.proofs.catches_multiple.Reads as catches-multiple
+use Rattle.fault_test.proofs.test_for.Reads as test-for
 use Rattle.judge.specs.Answers.{toldVerdict, toldBeside}
 use Rattle.judge.proofs.judge.Reads as judge
 use Rattle.judge.proofs.coverage.Coverage.with_vector.Reads as coverage-with-vector
@@ -28,7 +29,7 @@ use Rattle.judge.proofs.covering.cover.Reads as cover
 use Rattle.dropping.specs.Answers.{toldDropped}
 use Rattle.dropping.proofs.drop.Reads as drop
 use Rattle.dropping.proofs.Ported.drop_records.Reads as drop-records
-use Rattle.testsets.specs.Answers as testsets
+use Rattle.testsets.specs.Answers.{toldMade}
 use Rattle.testsets.proofs.backward_set.Reads as backward-set
 use Rattle.testsets.proofs.compact_set.Reads as compact-set
 use Rattle.job.specs.Answers.{toldRead, toldWritten}
@@ -112,7 +113,7 @@ pub catches-multiple-takes : Accepts catches-multiple.Post (λ κs. toldCaught)
     (λ κs (lines, (gates, (vector, (entries, _)))). MultipleTaken lines (now gates) vector (now entries))
 catches-multiple-takes = accepts refusing.catches-multiple-refuses (λ κs a. multiple-valid _ _ _ _)
 
-pub test-for-takes : Accepts test-for.Post (λ κs. toldMade) (λ κs (lines, (gates, (fault, _))). TestTaken lines (now gates) fault)
+pub test-for-takes : Accepts test-for.Post (λ κs. toldTest) (λ κs (lines, (gates, (fault, _))). TestTaken lines (now gates) fault)
 test-for-takes = accepts refusing.test-for-refuses (λ κs a. test-valid _ _ _)
 
 pub judge-takes : Accepts judge.Post (λ κs. toldVerdict)
@@ -138,11 +139,11 @@ pub drop-records-takes : Accepts drop-records.Post (λ κs. toldDropped)
     (λ κs (lines, (gates, (vector, (list, _)))). DropRecordsTaken lines (now gates) vector (now list))
 drop-records-takes = accepts refusing.drop-records-refuses (λ κs a. drop-records-valid _ _ _ _)
 
-pub backward-set-takes : Accepts backward-set.Post (λ κs. testsets.toldMade)
+pub backward-set-takes : Accepts backward-set.Post (λ κs. toldMade)
     (λ κs (lines, (gates, (room, _))). BackwardTaken lines (now gates) (length (now room)))
 backward-set-takes = accepts refusing.backward-set-refuses (λ κs a. backward-valid _ _ _)
 
-pub compact-set-takes : Accepts compact-set.Post (λ κs. testsets.toldMade)
+pub compact-set-takes : Accepts compact-set.Post (λ κs. toldMade)
     (λ κs (lines, (gates, (room, _))). CompactTaken lines (now gates) (length (now room)))
 compact-set-takes = accepts refusing.compact-set-refuses (λ κs a. compact-valid _ _ _)
 

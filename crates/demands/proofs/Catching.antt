@@ -15,14 +15,15 @@ use Rattle.circuit.specs.declared.Gate.{Gate}
 use Rattle.simulator.specs.Faulty.{faulty, caught}
 use Rattle.simulator.specs.Rules.{catchRows}
 use Rattle.faults.specs.Records.{faultsOf}
-use Rattle.simulator.specs.Faulty.{caughtTogether}
-use Rattle.simulator.specs.Rules.{multipleRows}
+use Rattle.multiple_faults.specs.Multiple.{caughtTogether}
+use Rattle.multiple_faults.specs.Rules.{multipleRows}
 use Rattle.simulator.specs.Answers.{toldOutput, toldCaught}
 use Rattle.faults.specs.declared.Fault.{Fault}
-use Rattle.simulator.proofs.RuleLaws.{catch-ok, multiple-ok}
+use Rattle.simulator.proofs.RuleLaws.{catch-ok}
+use Rattle.multiple_faults.proofs.RuleLaws.{multiple-ok}
 use Rattle.simulator.proofs.faulty_run.Reads as faulty-run
 use Rattle.simulator.proofs.catches.Reads as catches
-use Rattle.simulator.proofs.catches_multiple.Reads as catches-multiple
+use Rattle.multiple_faults.proofs.catches_multiple.Reads as catches-multiple
 use Rattle.nufsadeem.proofs.nuf_catches.Reads as c-catches
 use Rattle.nufsadeem.proofs.nuf_catches_multiple.Reads as c-catches-multiple
 use Rattle.demands.proofs.Machine.{Circuit, FaultyRuns, Caught, Missed, CaughtTogether, MissedTogether, Has, records, Multiple}

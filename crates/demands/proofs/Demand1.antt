@@ -9,14 +9,16 @@ use Rattle.circuit.specs.Answers.{toldRan}
 use Rattle.circuit.proofs.forward.Reads as forward
 use Rattle.circuit.proofs.backward.Reads as backward
 use Rattle.faults.specs.Rules.{faultRows}
-use Rattle.simulator.specs.Rules.{catchRows, testRows}
-use Rattle.faults.specs.Multiple.{entriesRows}
-use Rattle.simulator.specs.Rules.{multipleRows}
-use Rattle.simulator.specs.Answers.{toldOutput, toldCaught, toldMade}
+use Rattle.simulator.specs.Rules.{catchRows}
+use Rattle.fault_test.specs.Rules.{testRows}
+use Rattle.multiple_faults.specs.Rules.{entriesRows}
+use Rattle.multiple_faults.specs.Rules.{multipleRows}
+use Rattle.simulator.specs.Answers.{toldOutput, toldCaught}
+use Rattle.fault_test.specs.Answers.{toldTest}
 use Rattle.simulator.proofs.faulty_run.Reads as faulty-run
 use Rattle.simulator.proofs.catches.Reads as catches
-use Rattle.simulator.proofs.catches_multiple.Reads as catches-multiple
-use Rattle.simulator.proofs.test_for.Reads as test-for
+use Rattle.multiple_faults.proofs.catches_multiple.Reads as catches-multiple
+use Rattle.fault_test.proofs.test_for.Reads as test-for
 use Rattle.judge.specs.Rules.{classRows, judgeRows, countRows}
 use Rattle.judge.specs.Judging.{verdict}
 use Rattle.judge.specs.Answers.{toldVerdict, toldBeside}
@@ -29,7 +31,7 @@ use Rattle.dropping.specs.Answers.{toldDropped}
 use Rattle.dropping.proofs.drop.Reads as drop
 use Rattle.dropping.proofs.Ported.drop_records.Reads as drop-records
 use Rattle.testsets.specs.Rules.{backwardRows, compactRows}
-use Rattle.testsets.specs.Answers as testsets
+use Rattle.testsets.specs.Answers.{toldMade}
 use Rattle.testsets.proofs.backward_set.Reads as backward-set
 use Rattle.testsets.proofs.compact_set.Reads as compact-set
 use Rattle.job.specs.Rules.{readRows, writeRows, headerRows, contentRows}
@@ -76,7 +78,7 @@ pub catches-multiple-refuses : Refuses catches-multiple.Post (λ κs. toldCaught
 unfolding multipleRows entriesRows circuitSetRows circuitRows vectorRows
 catches-multiple-refuses = record { its-numbers = λ κs a. refl; in-order = in-turn _ _ refl; exact = λ κs a r e p. (_, exactly _ _ _ p) }
 
-pub test-for-refuses : Refuses test-for.Post (λ κs. toldMade)
+pub test-for-refuses : Refuses test-for.Post (λ κs. toldTest)
     (λ κs (lines, (gates, (fault, _))). testRows lines (now gates) fault)
     (3 ∷ 5 ∷ 7 ∷ 9 ∷ [])
 unfolding testRows faultRows circuitSetRows circuitRows
@@ -132,7 +134,7 @@ pub drop-records-leaves : Leaves drop-records-refuses
 drop-records-leaves = refusal-leaves _ (λ κs a r e p. p .1)
 
 -- testsets
-pub backward-set-refuses : Refuses backward-set.Post (λ κs. testsets.toldMade)
+pub backward-set-refuses : Refuses backward-set.Post (λ κs. toldMade)
     (λ κs (lines, (gates, (room, _))). backwardRows lines (now gates) (length (now room)))
     (3 ∷ 5 ∷ 7 ∷ 10 ∷ [])
 unfolding backwardRows circuitSetRows circuitRows
@@ -141,7 +143,7 @@ backward-set-refuses = record { its-numbers = λ κs a. refl; in-order = in-turn
 pub backward-set-leaves : Leaves backward-set-refuses (λ κs (_, (_, (room, _))). now room) (λ κs r (_, (_, (room-after, _))). now room-after)
 backward-set-leaves = refusal-leaves _ (λ κs a r e p. p .1)
 
-pub compact-set-refuses : Refuses compact-set.Post (λ κs. testsets.toldMade)
+pub compact-set-refuses : Refuses compact-set.Post (λ κs. toldMade)
     (λ κs (lines, (gates, (room, _))). compactRows lines (now gates) (length (now room)))
     (3 ∷ 5 ∷ 7 ∷ 11 ∷ 10 ∷ [])
 unfolding compactRows circuitSetRows circuitRows

@@ -6,9 +6,10 @@ use lib.ListN.{length}
 use denote.Ref.{now}
 use Rattle.circuit.specs.Rules.{circuitSetRows, circuitRows, setRows, vectorRows, levelRows, runRows}
 use Rattle.faults.specs.Rules.{faultRows}
-use Rattle.simulator.specs.Rules.{catchRows, testRows}
-use Rattle.faults.specs.Multiple.{entriesRows}
-use Rattle.simulator.specs.Rules.{multipleRows}
+use Rattle.simulator.specs.Rules.{catchRows}
+use Rattle.fault_test.specs.Rules.{testRows}
+use Rattle.multiple_faults.specs.Rules.{entriesRows}
+use Rattle.multiple_faults.specs.Rules.{multipleRows}
 use Rattle.judge.specs.Rules.{classRows, judgeRows}
 use Rattle.judge.specs.Judging.{verdict}
 use Rattle.dropping.specs.Rules.{recordRows, dropRows, dropRecordsRows}

@@ -21,7 +21,7 @@ use Rattle.circuit.proofs.backward.Reads as backward
 use Rattle.simulator.specs.Answers.{toldCaught}
 use Rattle.faults.specs.declared.Fault.{Fault}
 use Rattle.simulator.proofs.catches.Reads as catches
-use Rattle.simulator.proofs.catches_multiple.Reads as catches-multiple
+use Rattle.multiple_faults.proofs.catches_multiple.Reads as catches-multiple
 use Rattle.judge.specs.Answers.{toldVerdict}
 use Rattle.judge.proofs.judge.Reads as judge
 use Rattle.judge.proofs.covering.cover.Reads as cover

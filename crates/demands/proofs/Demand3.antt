@@ -12,11 +12,11 @@ use Rattle.refusals.specs.Checks.{fine}
 use Rattle.refusals.proofs.Tables.{answered-fine}
 use Rattle.circuit.specs.declared.Gate.{Gate}
 use Rattle.simulator.specs.Rules.{catchRows}
-use Rattle.simulator.specs.Rules.{multipleRows}
+use Rattle.multiple_faults.specs.Rules.{multipleRows}
 use Rattle.simulator.specs.Answers.{toldCaught}
 use Rattle.faults.specs.declared.Fault.{Fault}
 use Rattle.simulator.proofs.catches.Reads as catches
-use Rattle.simulator.proofs.catches_multiple.Reads as catches-multiple
+use Rattle.multiple_faults.proofs.catches_multiple.Reads as catches-multiple
 use Rattle.testsets.specs.Answers.{toldMade}
 use Rattle.testsets.proofs.compact_set.Reads as compact-set
 use Rattle.demands.proofs.Machine.{Circuit, CaughtTogether, Multiple}

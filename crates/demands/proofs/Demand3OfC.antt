@@ -9,7 +9,7 @@ use Rattle.refusals.specs.Tables.{Told, firstOf}
 use Rattle.refusals.specs.Checks.{fine}
 use Rattle.refusals.proofs.Tables.{answered-fine}
 use Rattle.simulator.specs.Rules.{catchRows}
-use Rattle.simulator.specs.Rules.{multipleRows}
+use Rattle.multiple_faults.specs.Rules.{multipleRows}
 use Rattle.nufsadeem.proofs.nuf_catches.Reads as catches
 use Rattle.nufsadeem.proofs.nuf_catches_multiple.Reads as catches-multiple
 use Rattle.answers.specs.declared.Catch.{Catch}

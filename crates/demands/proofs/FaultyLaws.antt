@@ -21,7 +21,7 @@ use Rattle.circuit.specs.Runs.{fires, step, run}
 use Rattle.circuit.specs.declared.Gate.{Gate}
 use Rattle.circuit.proofs.RunLaws.{suc-sub-one, run-append}
 use Rattle.simulator.specs.Faulty.{stuckRun, without, changed, faulty, caught}
-use Rattle.simulator.specs.Faulty.{caughtTogether}
+use Rattle.multiple_faults.specs.Multiple.{caughtTogether}
 use Rattle.faults.specs.declared.Fault.{Fault}
 use Rattle.simulator.proofs.FaultyLaws.{faulty-stuck, faulty-missing-gate, faulty-missing-control, faulty-extra-control}
 use Rattle.demands.proofs.Machine.{Control, Runs, StuckRuns, Without, Instead, gate, SaveFor, FaultyRuns, Outputs, Caught, Missed}

@@ -16,7 +16,7 @@ use Rattle.circuit.specs.declared.Gate.{Gate}
 use Rattle.faults.specs.Rules.{isStuckAt, isGate, isMissingGate, isMissingControl, isExtraControl, isFault}
 use Rattle.faults.specs.Records.{faultsOf}
 use Rattle.faults.specs.Sites.{sites}
-use Rattle.faults.specs.Entries.{StuckOk}
+use Rattle.faults.specs.Stuck.{StuckOk}
 use Rattle.faults.specs.declared.Fault.{Fault}
 use Rattle.faults.proofs.RuleLaws.{class-one, class-two, class-three, class-four, class-last, stuck-at-ok}
 use Rattle.faults.proofs.SiteCount.{stuck-site}

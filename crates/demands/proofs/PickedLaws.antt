@@ -11,7 +11,7 @@ use Rattle.basics.proofs.Lists.{keep-cong}
 use Rattle.circuit.specs.Sound.{AllOk}
 use Rattle.circuit.specs.declared.Gate.{Gate}
 use Rattle.simulator.specs.Faulty.{caught}
-use Rattle.faults.specs.Entries.{StuckOk}
+use Rattle.faults.specs.Stuck.{StuckOk}
 use Rattle.faults.specs.declared.Fault.{Fault}
 use Rattle.judge.specs.Judging.{uncaughtOf, caughtBySome}
 use Rattle.testsets.specs.Sets.{score, best, picks}

@@ -11,7 +11,7 @@ use borrow.Author.Tests.{ltb-true, ltb-false, lt-ltb, le-ltb, eqb-true, eqb-fals
 use Rattle.basics.specs.Lists.{some}
 use Rattle.basics.proofs.Tests.{by-test, and-both, and-true, or-left, or-right}
 use Rattle.faults.specs.Records.{noFault}
-use Rattle.faults.specs.Multiple.{sameSite, siteTwice}
+use Rattle.multiple_faults.specs.Multiple.{sameSite, siteTwice}
 use Rattle.faults.specs.declared.Fault.{Fault}
 use Rattle.demands.proofs.RuleWords.{Words, InWords, OfOne, of-one, either, neither}
 

@@ -17,7 +17,7 @@ use Rattle.circuit.specs.declared.Gate.{Gate}
 use Rattle.circuit.proofs.GateLaws.{gates-count}
 use Rattle.faults.specs.Rules.{isFault}
 use Rattle.faults.specs.Records.{noFault, faultsOf, firstBadRecord}
-use Rattle.faults.specs.Multiple.{badEntry}
+use Rattle.multiple_faults.specs.Multiple.{badEntry}
 use Rattle.faults.specs.declared.Fault.{Fault}
 use Rattle.faults.specs.Classes.{isClass}
 use Rattle.dropping.specs.Rules.{badRecord}

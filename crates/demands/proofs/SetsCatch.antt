@@ -19,9 +19,9 @@ use Rattle.simulator.specs.Faulty.{caught}
 use Rattle.faults.specs.Rules.{faultRows}
 use Rattle.simulator.specs.Rules.{catchRows}
 use Rattle.faults.specs.Records.{faultsOf}
-use Rattle.simulator.specs.Faulty.{caughtTogether}
-use Rattle.faults.specs.Multiple.{entriesRows}
-use Rattle.simulator.specs.Rules.{multipleRows}
+use Rattle.multiple_faults.specs.Multiple.{caughtTogether}
+use Rattle.multiple_faults.specs.Rules.{entriesRows}
+use Rattle.multiple_faults.specs.Rules.{multipleRows}
 use Rattle.faults.specs.declared.Fault.{Fault}
 use Rattle.simulator.proofs.RuleLaws.{catch-ok}
 use Rattle.testsets.proofs.Multiple.{deepest, deepest-caught}

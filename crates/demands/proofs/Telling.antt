@@ -7,15 +7,16 @@ use Rattle.refusals.specs.Checks.{fine}
 use Rattle.refusals.specs.declared.Refusal.{Refusal}
 use Rattle.circuit.specs.Answers.{toldRan}
 use Rattle.circuit.specs.declared.Ran.the-variants as ran
-use Rattle.simulator.specs.Answers.{toldCaught, toldMade}
+use Rattle.simulator.specs.Answers.{toldCaught}
+use Rattle.fault_test.specs.Answers.{toldTest}
 use Rattle.simulator.specs.declared.Caught.the-variants as caught
-use Rattle.simulator.specs.declared.Made.the-variants as made
+use Rattle.fault_test.specs.declared.Test.the-variants as test
 use Rattle.faults.specs.declared.Fault.{Fault}
 use Rattle.judge.specs.Answers.{toldVerdict, toldBeside}
 use Rattle.judge.specs.declared.Verdict.the-variants as verdict
 use Rattle.dropping.specs.Answers.{toldDropped}
 use Rattle.dropping.specs.declared.Dropped.the-variants as dropped
-use Rattle.testsets.specs.Answers as testsets
+use Rattle.testsets.specs.Answers.{toldMade}
 use Rattle.testsets.specs.declared.Made.the-variants as set
 use Rattle.job.specs.Answers.{toldRead, toldWritten}
 use Rattle.job.specs.declared.Read.the-variants as read
@@ -32,7 +33,7 @@ run-tells s = refl
 pub catch-tells : (toldCaught caught.Yes ≡ answered (1 ∷ [])) × (toldCaught caught.No ≡ answered (0 ∷ []))
 catch-tells = (refl, refl)
 
-pub test-tells : (v : ℕ) → toldMade (made.Vector v) ≡ answered (v ∷ [])
+pub test-tells : (v : ℕ) → toldTest (test.Vector v) ≡ answered (v ∷ [])
 test-tells v = refl
 
 -- a verdict: the number caught, the number in the class, and 1 for complete, or 0 and the first uncaught fault
@@ -50,7 +51,7 @@ beside-tells = refl
 pub drop-tells : (number : ℕ) → toldDropped (dropped.Left number) ≡ answered (number ∷ [])
 drop-tells number = refl
 
-pub set-tells : (number : ℕ) → testsets.toldMade (set.Count number) ≡ answered (number ∷ [])
+pub set-tells : (number : ℕ) → toldMade (set.Count number) ≡ answered (number ∷ [])
 set-tells number = refl
 
 -- lines, classes wanted, gates, vectors
@@ -68,8 +69,8 @@ report-tells number = refl
 
 module _ (r : Refusal) where
   pub refusals-tell : (toldRan (ran.Refused r) ≡ refused (r .number) (r .place)) × (toldCaught (caught.Refused r) ≡ refused (r .number) (r .place))
-      × (toldMade (made.Refused r) ≡ refused (r .number) (r .place)) × (toldVerdict (verdict.Refused r) ≡ refused (r .number) (r .place))
-      × (toldDropped (dropped.Refused r) ≡ refused (r .number) (r .place)) × (testsets.toldMade (set.Refused r) ≡ refused (r .number) (r .place))
+      × (toldTest (test.Refused r) ≡ refused (r .number) (r .place)) × (toldVerdict (verdict.Refused r) ≡ refused (r .number) (r .place))
+      × (toldDropped (dropped.Refused r) ≡ refused (r .number) (r .place)) × (toldMade (set.Refused r) ≡ refused (r .number) (r .place))
       × (toldRead (read.Refused r) ≡ refused (r .number) (r .place)) × (toldWritten (written.Refused r) ≡ refused (r .number) (r .place))
       × (toldReported (reported.Refused r) ≡ refused (r .number) (r .place))
   refusals-tell = (refl, refl, refl, refl, refl, refl, refl, refl, refl)

@@ -18,15 +18,15 @@ use Rattle.circuit.specs.Runs.{forward}
 use Rattle.circuit.specs.declared.Gate.{Gate}
 use Rattle.circuit.proofs.RunLaws.{forward-backward}
 use Rattle.faults.specs.Rules.{isFault}
-use Rattle.simulator.specs.Rules.{testRows}
-use Rattle.simulator.specs.Tests.{testLevel, testState, testFor}
-use Rattle.simulator.specs.Answers.{toldMade}
+use Rattle.fault_test.specs.Rules.{testRows}
+use Rattle.fault_test.specs.Tests.{testLevel, testState, testFor}
+use Rattle.fault_test.specs.Answers.{toldTest}
 use Rattle.faults.specs.declared.Fault.{Fault}
-use Rattle.simulator.proofs.RuleLaws.{TestOk, test-ok}
+use Rattle.fault_test.proofs.RuleLaws.{TestOk, test-ok}
 use Rattle.faults.proofs.RuleLaws.{class-last}
-use Rattle.simulator.proofs.TestLaws.{level-stuck, level-gate, state-stuck-one, state-stuck-zero, state-missing-gate, state-missing-control}
-use Rattle.simulator.proofs.TestLaws.{state-extra-control, test-catches, test-lt}
-use Rattle.simulator.proofs.test_for.Reads as test-for
+use Rattle.fault_test.proofs.TestLaws.{level-stuck, level-gate, state-stuck-one, state-stuck-zero, state-missing-gate, state-missing-control}
+use Rattle.fault_test.proofs.TestLaws.{state-extra-control, test-catches, test-lt}
+use Rattle.fault_test.proofs.test_for.Reads as test-for
 use Rattle.nufsadeem.proofs.nuf_test_for.Reads as c-test-for
 use Rattle.demands.proofs.Machine.{Level, Circuit, Caught, Has}
 use Rattle.demands.proofs.MachineLaws.{runs-run, circuit-is}
@@ -120,7 +120,7 @@ module _ (n : ℕ) (words : List ℕ) (f : Fault) (unbroken : fine ≡ firstOf (
 
 -- ---- the call
 
-pub test-for-means : Answers test-for.Post (λ κs. toldMade)
+pub test-for-means : Answers test-for.Post (λ κs. toldTest)
     (λ κs (lines, (gates, (fault, _))) values e. Tests lines (now gates) fault values)
 test-for-means = means refusing.test-for-refuses _ (λ κs a r e p. p) (λ κs a r e p u. tests _ _ _ u)
 

@@ -16,12 +16,14 @@ use Rattle.circuit.specs.Answers.{toldRan}
 use Rattle.circuit.proofs.AnswerLaws.{told-ran-one}
 use Rattle.circuit.proofs.forward.Reads as forward
 use Rattle.circuit.proofs.backward.Reads as backward
-use Rattle.simulator.specs.Answers.{toldOutput, toldCaught, toldMade}
-use Rattle.simulator.proofs.AnswerLaws.{told-output-one, told-caught-one, told-made-one}
+use Rattle.simulator.specs.Answers.{toldOutput, toldCaught}
+use Rattle.fault_test.specs.Answers.{toldTest}
+use Rattle.simulator.proofs.AnswerLaws.{told-output-one, told-caught-one}
+use Rattle.fault_test.proofs.AnswerLaws.{told-test-one}
 use Rattle.simulator.proofs.faulty_run.Reads as faulty-run
 use Rattle.simulator.proofs.catches.Reads as catches
-use Rattle.simulator.proofs.catches_multiple.Reads as catches-multiple
-use Rattle.simulator.proofs.test_for.Reads as test-for
+use Rattle.multiple_faults.proofs.catches_multiple.Reads as catches-multiple
+use Rattle.fault_test.proofs.test_for.Reads as test-for
 use Rattle.judge.specs.Answers.{toldVerdict, toldBeside}
 use Rattle.judge.proofs.AnswerLaws.{told-verdict-one, told-beside-one}
 use Rattle.judge.proofs.judge.Reads as judge
@@ -33,8 +35,8 @@ use Rattle.dropping.specs.Answers.{toldDropped}
 use Rattle.dropping.proofs.AnswerLaws.{told-dropped-one}
 use Rattle.dropping.proofs.drop.Reads as drop
 use Rattle.dropping.proofs.Ported.drop_records.Reads as drop-records
-use Rattle.testsets.specs.Answers as testsets
-use Rattle.testsets.proofs.AnswerLaws as testsets-laws
+use Rattle.testsets.specs.Answers.{toldMade}
+use Rattle.testsets.proofs.AnswerLaws.{told-made-one}
 use Rattle.testsets.proofs.backward_set.Reads as backward-set
 use Rattle.testsets.proofs.compact_set.Reads as compact-set
 use Rattle.job.specs.Answers.{toldRead, toldWritten}
@@ -128,7 +130,7 @@ catches-multiple-one κs a b equal r s e f p q = one toldCaught told-caught-one 
 
 pub test-for-one : OneResult test-for.Post
     (λ κs (lines, (gates, (fault, _))) (lines′, (gates′, (fault′, _))). (lines ≡ lines′) × (now gates ≡ now gates′) × (fault ≡ fault′))
-test-for-one κs a b equal r s e f p q = one toldMade told-made-one r s p cc
+test-for-one κs a b equal r s e f p q = one toldTest told-test-one r s p cc
 
 -- judge
 pub judge-one : OneResult judge.Post
@@ -174,12 +176,12 @@ drop-records-one κs a b equal r s e f p q = (one toldDropped told-dropped-one r
 pub backward-set-one : OneResultAndMemory backward-set.Post
     (λ κs (lines, (gates, (room, _))) (lines′, (gates′, (room′, _))). (lines ≡ lines′) × (now gates ≡ now gates′) × (now room ≡ now room′))
     (λ κs (_, (_, (room-after, _))) f. now room-after ≡ now (f .1 .1 .0))
-backward-set-one κs a b equal r s e f p q = (one testsets.toldMade testsets-laws.told-made-one r s (p .0) cc, same (p .1) cc)
+backward-set-one κs a b equal r s e f p q = (one toldMade told-made-one r s (p .0) cc, same (p .1) cc)
 
 pub compact-set-one : OneResultAndMemory compact-set.Post
     (λ κs (lines, (gates, (room, _))) (lines′, (gates′, (room′, _))). (lines ≡ lines′) × (now gates ≡ now gates′) × (now room ≡ now room′))
     (λ κs (_, (_, (room-after, _))) f. now room-after ≡ now (f .1 .1 .0))
-compact-set-one κs a b equal r s e f p q = (one testsets.toldMade testsets-laws.told-made-one r s (p .0) cc, same (p .1) cc)
+compact-set-one κs a b equal r s e f p q = (one toldMade told-made-one r s (p .0) cc, same (p .1) cc)
 
 -- job
 pub read-job-one : OneResultAndMemory read-job.Post

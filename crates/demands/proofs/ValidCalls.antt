@@ -17,7 +17,8 @@ use Rattle.circuit.specs.Gates.{gatesOf}
 use Rattle.circuit.specs.Rules.{circuitRows, setRows, vectorRows, levelRows, runRows}
 use Rattle.circuit.specs.declared.Gate.{Gate}
 use Rattle.faults.specs.Rules.{faultRows}
-use Rattle.simulator.specs.Rules.{catchRows, testRows}
+use Rattle.simulator.specs.Rules.{catchRows}
+use Rattle.fault_test.specs.Rules.{testRows}
 use Rattle.faults.specs.declared.Fault.{Fault}
 use Rattle.judge.specs.Rules.{classRows, judgeRows, countRows}
 use Rattle.testsets.specs.Log2.{log2}

@@ -14,7 +14,7 @@ use Rattle.circuit.specs.Sound.{Sound}
 use Rattle.circuit.proofs.ControlLaws.{control-in}
 use Rattle.circuit.proofs.RuleLaws.{gate-ok}
 use Rattle.faults.specs.Rules.{isFault}
-use Rattle.faults.specs.Entries.{StuckOk}
+use Rattle.faults.specs.Stuck.{StuckOk}
 use Rattle.faults.specs.declared.Fault.{Fault}
 use Rattle.faults.proofs.RuleLaws.{class-one, class-two, class-three, class-four, class-last, stuck-at-ok, missing-gate-ok}
 use Rattle.faults.proofs.RuleLaws.{missing-control-ok, extra-control-ok, missing-gate-value, missing-control-value, extra-control-value}

@@ -1,17 +1,11 @@
--- Laws of a plain list of fault records: a record is four words, and a site may be named twice.
+-- Laws of a plain list of fault records: a record is four words.
 use Prim.Native.Nat.{ℕ, zero, suc, _+_, _*_, _/_, _<_, _≤_}
 use mathlib.Core.Path.{_≡_, refl}
-use mathlib.Core.Bool.{true, false}
 use mathlib.Core.List.{List, [], _∷_}
 use native.Mathlib.Nat.{not-suc-le-zero}
-use native.Mathlib.Numerals.{add-one}
 use native.Mathlib.Omega.{arith}
-use lib.ListN.{length, getD, drop, drop-of-length-le}
-use lib.Seq.{drop-cons}
-use Rattle.basics.specs.Lists.{some}
+use lib.ListN.{length, getD}
 use Rattle.faults.specs.Records.{faultsOf, noFault}
-use Rattle.faults.specs.Multiple.{sameSite, siteTwice}
-use Rattle.faults.specs.declared.Fault.{Fault}
 
 -- as many whole records as the list has fours
 pub records-count : (list : List ℕ) → length (faultsOf list) ≡ length list / 4
@@ -44,18 +38,3 @@ pub record-words : (list : List ℕ) (i : ℕ) → 4 * i + 4 ≤ length list
     → record { class = getD list (4 * i) 0; place = getD list (4 * i + 1) 0; line = getD list (4 * i + 2) 0; value = getD list (4 * i + 3) 0 } ≡ getD
     (faultsOf list) i noFault
 record-words list i h = record-four list i (omega (arith, records-count list))
-
--- a site named twice, from record i on: by the record and a later one, by later ones alone, and the end
-pub twice-found : (fs : List Fault) (i : ℕ) → i < length fs → some (sameSite (getD fs i noFault)) (drop (i + 1) fs) ≡ true
-    → siteTwice (drop i fs) ≡ true
-unfolding siteTwice
-twice-found fs i h e = rw (drop-cons fs i noFault h, rw (add-one i) at e)
-
-pub twice-passed : (fs : List Fault) (i : ℕ) → i < length fs → some (sameSite (getD fs i noFault)) (drop (i + 1) fs) ≡ false
-    → siteTwice (drop i fs) ≡ siteTwice (drop (i + 1) fs)
-unfolding siteTwice
-twice-passed fs i h e = rw (add-one i, drop-cons fs i noFault h, rw (add-one i) at e)
-
-pub twice-end : (fs : List Fault) (i : ℕ) → length fs ≤ i → siteTwice (drop i fs) ≡ false
-unfolding siteTwice
-twice-end fs i h = rw (drop-of-length-le fs h)

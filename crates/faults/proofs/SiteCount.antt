@@ -17,7 +17,7 @@ use Rattle.circuit.specs.Gates.{gatesOf}
 use Rattle.circuit.specs.Sound.{Sound}
 use Rattle.circuit.specs.declared.Gate.{Gate}
 use Rattle.faults.specs.Sites.{sites, siteCount}
-use Rattle.faults.specs.Entries.{StuckOk}
+use Rattle.faults.specs.Stuck.{StuckOk}
 use Rattle.faults.specs.Classes.{stuckFaults}
 use Rattle.faults.specs.declared.Fault.{Fault}
 use Rattle.faults.proofs.SiteLaws.{sites-lt, site-line}

@@ -1,7 +1,5 @@
-pub mod Limits
 pub mod Sites
 pub mod Rules
 pub mod Records
-pub mod Multiple
-pub mod Entries
+pub mod Stuck
 pub mod Classes

@@ -1,5 +1,4 @@
-// Faults: records of them, the sites where a line can be stuck, and the rules of one fault and of several together.
-pub mod limits;
+// Faults: records of them, the sites where a line can be stuck, and the rules of a fault.
 pub mod places;
 pub mod records;
 pub mod rules;

@@ -27,7 +27,7 @@ use Rattle.circuit.proofs.StopLaws.{stops-zero}
 use Rattle.simulator.proofs.FaultyLaws.{stuck-caught, missing-gate-caught}
 use Rattle.simulator.proofs.UnchangedLaws.{missing-stops, extra-caught}
 use Rattle.faults.specs.Classes.{faultOf}
-use Rattle.faults.specs.Entries.{StuckOk}
+use Rattle.faults.specs.Stuck.{StuckOk}
 use Rattle.faults.specs.Sites.{sites}
 use Rattle.faults.proofs.SiteLaws.{sites-lt}
 use Rattle.marking.specs.Marks.{caughtLines, caughtAtGate}

@@ -3,7 +3,9 @@
 ghost use mathlib.Core.Path.{_≡_};
 ghost use mathlib.Core.List.{[], _∷_};
 ghost use Rattle.circuit.specs.Promises.{forwardTells, backwardTells};
-ghost use Rattle.simulator.specs.Promises.{catchesTells, catchesMultipleTells, testForTells};
+ghost use Rattle.simulator.specs.Promises.{catchesTells};
+ghost use Rattle.multiple_faults.specs.Promises.{catchesMultipleTells};
+ghost use Rattle.fault_test.specs.Promises.{testForTells};
 ghost use Rattle.dropping.specs.Promises.{dropTells, dropLeaves, dropRecordsTells, dropRecordsLeaves};
 ghost use Rattle.testsets.specs.Promises.{backwardSetTells, backwardSetLeaves, compactSetTells, compactSetLeaves};
 ghost use Rattle.answers.specs.Fields.{fields};
@@ -56,7 +58,7 @@ pub extern "C" fn nuf_catches_multiple(
     ensures { λ r. ⌜ (r .number ∷ r .place ∷ r .caught ∷ []) ≡ fields 1
         (catchesMultipleTells lines (now (gates .entry)) vector (now (entries .entry))) ⌝ }
 {
-    catch_of(simulator::catches_multiple(lines, gates, vector, entries))
+    catch_of(multiple_faults::catches_multiple(lines, gates, vector, entries))
 }
 
 // The test for one fault.
@@ -64,7 +66,7 @@ pub extern "C" fn nuf_catches_multiple(
 pub extern "C" fn nuf_test_for(lines: u32, gates: &[u32], fault: Fault) -> Vector
     ensures { λ r. ⌜ (r .number ∷ r .place ∷ r .vector ∷ []) ≡ fields 1 (testForTells lines (now (gates .entry)) fault) ⌝ }
 {
-    vector_of(simulator::test_for(lines, gates, fault))
+    vector_of(fault_test::test_for(lines, gates, fault))
 }
 
 // The backward set, into the front of a room.

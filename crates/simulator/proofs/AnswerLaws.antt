@@ -2,13 +2,11 @@
 use mathlib.Core.Path.{_≡_, refl, ap}
 use Rattle.refusals.proofs.Clashes.{answered-refused, refused-answered, one-zero, zero-one}
 use Rattle.refusals.proofs.Tables.{told-refusal}
-use Rattle.simulator.specs.Answers.{toldOutput, toldCaught, toldMade}
+use Rattle.simulator.specs.Answers.{toldOutput, toldCaught}
 use Rattle.simulator.specs.declared.Output.{Output}
 use Rattle.simulator.specs.declared.Output.the-variants as output
 use Rattle.simulator.specs.declared.Caught.{Caught}
 use Rattle.simulator.specs.declared.Caught.the-variants as caught
-use Rattle.simulator.specs.declared.Made.{Made}
-use Rattle.simulator.specs.declared.Made.the-variants as made
 
 pub told-output-one : (r s : Output) → toldOutput r ≡ toldOutput s → r ≡ s
 told-output-one (output.Word a) (output.Word b) e = cc
@@ -26,9 +24,3 @@ told-caught-one caught.No (caught.Refused q) e = answered-refused e
 told-caught-one (caught.Refused p) caught.Yes e = refused-answered e
 told-caught-one (caught.Refused p) caught.No e = refused-answered e
 told-caught-one (caught.Refused p) (caught.Refused q) e = ap caught.Refused (told-refusal p q e)
-
-pub told-made-one : (r s : Made) → toldMade r ≡ toldMade s → r ≡ s
-told-made-one (made.Vector a) (made.Vector b) e = cc
-told-made-one (made.Vector a) (made.Refused q) e = answered-refused e
-told-made-one (made.Refused p) (made.Vector b) e = refused-answered e
-told-made-one (made.Refused p) (made.Refused q) e = ap made.Refused (told-refusal p q e)

@@ -16,7 +16,7 @@ use Rattle.circuit.specs.Sound.{AllOk}
 use Rattle.circuit.specs.declared.Gate.{Gate}
 use Rattle.circuit.proofs.ControlLaws.{fires-iff, less-fires-iff}
 use Rattle.simulator.specs.Faulty.{faulty, caught}
-use Rattle.faults.specs.Entries.{StuckOk}
+use Rattle.faults.specs.Stuck.{StuckOk}
 use Rattle.faults.specs.declared.Fault.{Fault}
 use Rattle.simulator.proofs.FaultyLaws.{caught-iff, stuck-caught, missing-gate-caught, missing-control-caught, extra-control-caught}
 

@@ -22,7 +22,7 @@ use Rattle.circuit.specs.declared.Gate.{Gate}
 use Rattle.circuit.proofs.RunLaws.{suc-sub-one, level-step, run-append, run-injective, run-from-level}
 use Rattle.circuit.proofs.ControlLaws.{step-changes, less-control-differs, more-control-differs}
 use Rattle.simulator.specs.Faulty.{faulty, caught, forceAt, stuckRun, without, changed}
-use Rattle.faults.specs.Entries.{StuckOk}
+use Rattle.faults.specs.Stuck.{StuckOk}
 use Rattle.faults.specs.declared.Fault.{Fault}
 
 -- ---- what the rest of a circuit is given, it passes on

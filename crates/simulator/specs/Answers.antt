@@ -6,8 +6,6 @@ use Rattle.simulator.specs.declared.Output.{Output}
 use Rattle.simulator.specs.declared.Output.the-variants as output
 use Rattle.simulator.specs.declared.Caught.{Caught}
 use Rattle.simulator.specs.declared.Caught.the-variants as caught
-use Rattle.simulator.specs.declared.Made.{Made}
-use Rattle.simulator.specs.declared.Made.the-variants as made
 
 -- the output of a circuit with a fault in it
 abbrev pub toldOutput : Output → Told
@@ -19,8 +17,3 @@ abbrev pub toldCaught : Caught → Told
 toldCaught caught.Yes = answered (1 ∷ [])
 toldCaught caught.No = answered (0 ∷ [])
 toldCaught (caught.Refused r) = refused (r .number) (r .place)
-
--- a vector that was made
-abbrev pub toldMade : Made → Told
-toldMade (made.Vector v) = answered (v ∷ [])
-toldMade (made.Refused r) = refused (r .number) (r .place)

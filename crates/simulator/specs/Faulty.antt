@@ -51,7 +51,3 @@ faulty gs f x =
 -- caught: the final output differs from the good one
 unfoldable pub caught : List Gate → Fault → ℕ → Bool
 caught gs f x = not (eqb (faulty gs f x) (run gs x))
-
--- several stuck-at faults together are caught as one: only the whole faulty run decides
-unfoldable pub caughtTogether : List Gate → List Fault → ℕ → Bool
-caughtTogether gs fs x = not (eqb (stuckRun fs 0 gs x) (run gs x))

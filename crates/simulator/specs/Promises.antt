@@ -5,11 +5,9 @@ use Rattle.basics.specs.Choice.{count}
 use Rattle.refusals.specs.Tables.{Told, firstOf}
 use Rattle.refusals.specs.Tables.Told.{answered}
 use Rattle.circuit.specs.Gates.{gatesOf}
-use Rattle.faults.specs.Records.{faultsOf}
 use Rattle.faults.specs.declared.Fault.{Fault}
-use Rattle.simulator.specs.Faulty.{faulty, caught, caughtTogether}
-use Rattle.simulator.specs.Rules.{catchRows, testRows, multipleRows}
-use Rattle.simulator.specs.Tests.{testFor}
+use Rattle.simulator.specs.Faulty.{faulty, caught}
+use Rattle.simulator.specs.Rules.{catchRows}
 
 -- `faulty_run`: the output of the circuit with the fault in it
 abbrev pub outputTells : ℕ → List ℕ → ℕ → Fault → Told
@@ -18,12 +16,3 @@ outputTells n words x f = firstOf (catchRows n words x f) (answered (faulty (gat
 -- `catches`: 1 where the vector catches the fault, and 0 elsewhere
 abbrev pub catchesTells : ℕ → List ℕ → ℕ → Fault → Told
 catchesTells n words x f = firstOf (catchRows n words x f) (answered (count (caught (gatesOf words) f x) ∷ []))
-
--- `catches_multiple`: 1 where the vector catches all entries together, and 0 elsewhere
-abbrev pub catchesMultipleTells : ℕ → List ℕ → ℕ → List ℕ → Told
-catchesMultipleTells n words x list =
-    firstOf (multipleRows n words x list) (answered (count (caughtTogether (gatesOf words) (faultsOf list) x) ∷ []))
-
--- `test_for`: a vector that catches the fault
-abbrev pub testForTells : ℕ → List ℕ → Fault → Told
-testForTells n words f = firstOf (testRows n words f) (answered (testFor n (gatesOf words) f ∷ []))

@@ -4,7 +4,6 @@ ghost use mathlib.Core.Bool.{true, not};
 ghost use Prim.Native.Nat.{_-_, _<_, _≤_};
 ghost use lib.ListN.{length, drop};
 ghost use lib.Dec.{eqb};
-ghost use Rattle.basics.specs.Choice.{choice};
 ghost use Rattle.words.specs.Word.{bit, force};
 ghost use Rattle.circuit.specs.Limits.{mostLines};
 ghost use Rattle.circuit.specs.Gates.{gatesOf, gateAt};
@@ -12,16 +11,12 @@ ghost use Rattle.circuit.specs.Controls.{lessControl, moreControl};
 ghost use Rattle.circuit.specs.Runs.{step, run, forward};
 ghost use Rattle.circuit.specs.Sound.{Sound};
 ghost use Rattle.simulator.specs.Shown.{stateRead, outputFrom};
-ghost use Rattle.simulator.specs.Faulty.{forceAt, stuckRun, faulty, caught, caughtTogether};
+ghost use Rattle.simulator.specs.Faulty.{faulty, caught};
 ghost use Rattle.faults.specs.Rules.{isFault};
-ghost use Rattle.faults.specs.Records.{faultsOf};
-ghost use Rattle.simulator.specs.Tests.{lineAtZero, testState, testFor};
-ghost use Rattle.faults.specs.Entries.{Entries};
 use circuit::Gate;
 use circuit::checked::gate_at;
 use circuit::checked::less_control;
 use circuit::checked::more_control;
-use circuit::checked::run_backward;
 use circuit::checked::run_forward;
 use circuit::checked::run_onward;
 use circuit::checked::step;
@@ -29,7 +24,6 @@ use circuit::numbers;
 use circuit::numbers::LevelNumber;
 use faults::Fault;
 use faults::places;
-use faults::records;
 use words;
 
 // From a level on to the output.
@@ -164,133 +158,4 @@ pub fn catches(lines: u32, gates: &[u32], vector: u32, fault: Fault) -> bool
         4 => catches_changed(lines, gates, vector, fault, gate_more(lines, gates, fault)),
         0 | 5..=4294967295 => false,
     }
-}
-
-// One entry's line, forced where the state is at its level.
-fn force_entry(fault: Fault, level: LevelNumber, state: u32) -> u32
-    requires { ⌜ fault .line < mostLines ⌝ }
-    ensures { λ r. ⌜ r ≡ choice (eqb (fault .place) (level .0)) (force state (fault .line) (fault .value)) state ⌝ }
-{
-    if numbers::same_level(places::level_of(fault), level) {
-        words::checked::force(state, fault.line, fault.value)
-    } else {
-        state
-    }
-}
-
-// The lines stuck at a level, forced.
-fn force_level(lines: u32, gates: &[u32], entries: &[u32], level: LevelNumber, state: u32) -> u32
-    requires { ⌜ Sound lines (now gates) ⌝ }
-    requires { ⌜ Entries lines (gatesOf (now gates)) (now entries) ⌝ }
-    ensures { λ r. ⌜ r ≡ forceAt (faultsOf (now (entries .entry))) (level .0) state ⌝ }
-{
-    let whole = entries.len() / 4;
-    let mut now = state;
-    let mut i = 0;
-    while i < whole {
-        now = force_entry(records::record_at(entries, i), level, now);
-        i += 1;
-    }
-    now
-}
-
-// The good state and the faulty one, side by side.
-pub struct Both {
-    good: u32,
-    faulty: u32,
-}
-
-// The lines stuck at a level, forced in the faulty state alone.
-fn force_faulty(lines: u32, gates: &[u32], entries: &[u32], level: LevelNumber, both: Both) -> Both
-    requires { ⌜ Sound lines (now gates) ⌝ }
-    requires { ⌜ Entries lines (gatesOf (now gates)) (now entries) ⌝ }
-    ensures { λ r. ⌜ (r .good ≡ both .good) × (r .faulty ≡ forceAt (faultsOf (now (entries .entry))) (level .0) (both .faulty)) ⌝ }
-{
-    Both {
-        good: both.good,
-        faulty: force_level(lines, gates, entries, level, both.faulty),
-    }
-}
-
-// The good output, and the output with several lines stuck.
-pub fn run_stuck(lines: u32, gates: &[u32], entries: &[u32], vector: u32) -> Both
-    requires { ⌜ Sound lines (now gates) ⌝ }
-    requires { ⌜ Entries lines (gatesOf (now gates)) (now entries) ⌝ }
-    ensures { λ r. ⌜ (r .good ≡ run (gatesOf (now (gates .entry))) vector)
-        × (r .faulty ≡ stuckRun (faultsOf (now (entries .entry))) 0 (gatesOf (now (gates .entry))) vector) ⌝ }
-{
-    let end = gates.len() / 3;
-    let mut good = vector;
-    let mut faulty = vector;
-    let mut i = 0;
-    while i < end {
-        let level = numbers::level(i);
-        let forced = force_faulty(lines, gates, entries, level, Both { good, faulty });
-        let gate = gate_at(gates, numbers::gate_after(level));
-        good = step(gate, forced.good);
-        faulty = step(gate, forced.faulty);
-        i += 1;
-    }
-    force_faulty(
-        lines,
-        gates,
-        entries,
-        numbers::level(end),
-        Both { good, faulty },
-    )
-}
-
-// Whether a vector catches several stuck lines together: the whole faulty run decides.
-pub fn catches_multiple(lines: u32, gates: &[u32], vector: u32, entries: &[u32]) -> bool
-    requires { ⌜ Sound lines (now gates) ⌝ }
-    requires { ⌜ Entries lines (gatesOf (now gates)) (now entries) ⌝ }
-    ensures { λ r. ⌜ r ≡ caughtTogether (gatesOf (now (gates .entry))) (faultsOf (now (entries .entry))) vector ⌝ }
-{
-    let both = run_stuck(lines, gates, entries, vector);
-    both.faulty != both.good
-}
-
-// Whether the test for a fault wants a line at 0.
-fn line_at_zero(fault: Fault) -> bool
-    ensures { λ r. ⌜ r ≡ lineAtZero fault ⌝ }
-{
-    let class = fault.class;
-    if class == 1 {
-        return fault.value == 1;
-    }
-    if class == 3 {
-        return true;
-    }
-    class == 4
-}
-
-// All lines 1, save the one that the test for a fault wants at 0.
-fn test_state(lines: u32, fault: Fault) -> u32
-    requires { ⌜ (lines ≤ mostLines) × (fault .line < mostLines) ⌝ }
-    ensures { λ r. ⌜ r ≡ testState lines fault ⌝ }
-{
-    let ones = words::checked::all_ones(lines);
-    if line_at_zero(fault) {
-        words::checked::force(ones, fault.line, 0)
-    } else {
-        ones
-    }
-}
-
-// The test for a fault, worked backward from the level where it shows.
-pub fn test_for(lines: u32, gates: &[u32], fault: Fault) -> u32
-    requires { ⌜ Sound lines (now gates) ⌝ }
-    requires { ⌜ isFault lines (gatesOf (now gates)) fault ≡ true ⌝ }
-    ensures { λ r. ⌜ r ≡ testFor lines (gatesOf (now (gates .entry))) fault ⌝ }
-{
-    let state = test_state(lines, fault);
-    if fault.class == 1 {
-        return run_backward(lines, gates, places::level_of(fault), state);
-    }
-    run_backward(
-        lines,
-        gates,
-        numbers::level_read(places::gate_of(fault)),
-        state,
-    )
 }

@@ -20,7 +20,7 @@ use Rattle.words.proofs.Lines.{bit-flip-same}
 use Rattle.circuit.specs.Sound.{AllOk}
 use Rattle.circuit.specs.declared.Gate.{Gate}
 use Rattle.simulator.specs.Faulty.{caught}
-use Rattle.faults.specs.Entries.{StuckOk}
+use Rattle.faults.specs.Stuck.{StuckOk}
 use Rattle.faults.specs.declared.Fault.{Fault}
 use Rattle.simulator.proofs.FaultyLaws.{stuck-caught}
 use Rattle.judge.specs.Judging.{uncaughtOf}

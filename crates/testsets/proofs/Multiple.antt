@@ -22,9 +22,10 @@ use Rattle.circuit.specs.Runs.{run, forward}
 use Rattle.circuit.specs.Sound.{GateOk, AllOk}
 use Rattle.circuit.specs.declared.Gate.{Gate}
 use Rattle.circuit.proofs.RunLaws.{run-injective, run-from-level}
-use Rattle.simulator.specs.Faulty.{caught, forceAt, stuckRun, caughtTogether}
-use Rattle.faults.specs.Multiple.{sameSite, siteTwice}
-use Rattle.faults.specs.Entries.{StuckOk}
+use Rattle.simulator.specs.Faulty.{caught, forceAt, stuckRun}
+use Rattle.multiple_faults.specs.Multiple.{caughtTogether}
+use Rattle.multiple_faults.specs.Multiple.{sameSite, siteTwice}
+use Rattle.faults.specs.Stuck.{StuckOk}
 use Rattle.faults.specs.declared.Fault.{Fault}
 use Rattle.simulator.proofs.FaultyLaws.{arrive, stuck-from, stuck-caught}
 

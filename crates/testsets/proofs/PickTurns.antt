@@ -10,7 +10,7 @@ use Rattle.basics.proofs.Fills.{fill-turn, fill-length, fill-done, fill-next, f
 use Rattle.circuit.specs.Gates.{gatesOf}
 use Rattle.circuit.specs.Sound.{AllOk, Sound}
 use Rattle.circuit.specs.declared.Gate.{Gate}
-use Rattle.faults.specs.Entries.{StuckOk}
+use Rattle.faults.specs.Stuck.{StuckOk}
 use Rattle.faults.specs.declared.Fault.{Fault}
 use Rattle.faults.specs.Classes.{stuckFaults}
 use Rattle.marking.specs.Marks.{levelMarked}

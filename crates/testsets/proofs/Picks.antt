@@ -8,7 +8,7 @@ use lib.ListN.{length}
 use Rattle.basics.specs.Lists.{All}
 use Rattle.circuit.specs.Sound.{AllOk}
 use Rattle.circuit.specs.declared.Gate.{Gate}
-use Rattle.faults.specs.Entries.{StuckOk}
+use Rattle.faults.specs.Stuck.{StuckOk}
 use Rattle.faults.specs.declared.Fault.{Fault}
 use Rattle.faults.specs.Classes.{stuckFaults}
 use Rattle.judge.specs.Judging.{uncaughtOf}

@@ -12,7 +12,7 @@ use Rattle.words.specs.Word.{bit}
 use Rattle.circuit.specs.declared.Gate.{Gate}
 use Rattle.faults.specs.Sites.{sites}
 use Rattle.simulator.specs.Faulty.{caught}
-use Rattle.faults.specs.Entries.{StuckOk}
+use Rattle.faults.specs.Stuck.{StuckOk}
 use Rattle.faults.specs.declared.Fault.{Fault}
 use Rattle.faults.specs.Classes.{faultOf, stuckFaults}
 use Rattle.judge.specs.Judging.{caughtBySome, uncaughtOf}

@@ -1,4 +1,4 @@
--- `nufsadeem::nuf_catches_multiple` meets its contract: its fields are those of what `simulator::catches_multiple` tells. Assumes nothing.
+-- `nufsadeem::nuf_catches_multiple` meets its contract: its fields are those of what `multiple_faults::catches_multiple` tells. Assumes nothing.
 use mathlib.Core.Path.{ap, _∙_}
 use Rattle.answers.specs.Fields.{fields}
 use borrow.Author.Needs.{needs}

@@ -1,4 +1,4 @@
--- `nufsadeem::nuf_test_for` meets its contract: its fields are those of what `simulator::test_for` tells. Assumes nothing.
+-- `nufsadeem::nuf_test_for` meets its contract: its fields are those of what `fault_test::test_for` tells. Assumes nothing.
 use mathlib.Core.Path.{ap, _∙_}
 use Rattle.answers.specs.Fields.{fields}
 use borrow.Author.Needs.{needs}

@@ -1,0 +1,5 @@
+pub mod Limits
+pub mod Multiple
+pub mod Entries
+pub mod Rules
+pub mod Promises
