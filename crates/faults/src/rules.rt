@@ -4,7 +4,6 @@ ghost use Rattle.refusals.specs.Tables.{firstOf};
 ghost use Rattle.refusals.specs.Checks.{fine, found};
 ghost use Rattle.circuit.specs.Gates.{gatesOf};
 ghost use Rattle.circuit.specs.Sound.{Sound};
-ghost use Rattle.faults.specs.Sites.{sites};
 ghost use Rattle.faults.specs.Rules.{isStuckAt, isGate, isMissingGate, isMissingControl, isExtraControl, faultRows};
 use crate::Fault;
 use crate::places;
