@@ -1,4 +1,5 @@
--- `multiple_faults::catches_multiple` meets its contract: the check is the whole table, and what passes it are entries of a sound circuit. Assumes nothing.
+-- `multiple_faults::catches_multiple` meets its contract: the check is the whole table, and what passes it are entries of a sound circuit.
+-- Assumes nothing.
 use mathlib.Core.Path.{ap, sym, _∙_}
 use Rattle.refusals.specs.Checks.{found}
 use Rattle.refusals.proofs.Tables.{refused-all, fine-all}

@@ -1,5 +1,5 @@
--- `multiple_faults::checked::run_stuck` meets its contract: each turn forces the lines of the level reached in the faulty state alone, and both states
--- take the gate that reads it. Assumes nothing.
+-- `multiple_faults::checked::run_stuck` meets its contract: each turn forces the lines of the level reached in the faulty state alone, and
+-- both states take the gate that reads it. Assumes nothing.
 use Prim.Native.Nat.{ℕ, _/_, _+_, _-_, _≤_}
 use mathlib.Core.Path.{_≡_, refl, ap, ap₂, sym, _∙_}
 use mathlib.Core.List.{List}

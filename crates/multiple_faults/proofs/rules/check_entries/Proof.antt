@@ -1,4 +1,5 @@
--- `multiple_faults::rules::check_entries` meets its contract: rule 9 is asked of every record first, then the three parts of rule 13. Assumes nothing.
+-- `multiple_faults::rules::check_entries` meets its contract: rule 9 is asked of every record first, then the three parts of rule 13.
+-- Assumes nothing.
 use mathlib.Core.Path.{_∙_}
 use Rattle.multiple_faults.proofs.RuleLaws.{entries-bad, entries-none, entries-many, entries-twice}
 use borrow.Author.Needs.{needs}
