@@ -25,17 +25,13 @@ use Rattle.circuit.specs.Rules.{
   runRows,
 }
 use Rattle.simulator.specs.Faulty.{forceAt, stuckRun, without, changed, faulty, caught}
-use Rattle.faults.specs.Sites.{sites}
-use Rattle.faults.specs.Rules.{isStuckAt, isGate, isMissingGate, isMissingControl, isExtraControl, isFault}
-use Rattle.faults.specs.Records.{noFault}
-use Rattle.faults.specs.Rules.{faultRows}
+use Rattle.faults.specs.Sites.{sites, siteCount}
+use Rattle.faults.specs.Rules.{isStuckAt, isGate, isMissingGate, isMissingControl, isExtraControl, isFault, faultRows}
+use Rattle.faults.specs.Records.{noFault, faultsOf, firstBadRecord}
 use Rattle.simulator.specs.Rules.{catchRows}
 use Rattle.fault_test.specs.Rules.{testRows}
-use Rattle.faults.specs.Records.{faultsOf, firstBadRecord}
-use Rattle.multiple_faults.specs.Multiple.{caughtTogether}
-use Rattle.multiple_faults.specs.Multiple.{badEntry, sameSite, siteTwice}
-use Rattle.multiple_faults.specs.Rules.{entriesRows}
-use Rattle.multiple_faults.specs.Rules.{multipleRows}
+use Rattle.multiple_faults.specs.Multiple.{caughtTogether, badEntry, sameSite, siteTwice}
+use Rattle.multiple_faults.specs.Rules.{entriesRows, multipleRows}
 use Rattle.fault_test.specs.Tests.{testLevel, lineAtZero, testState, testFor}
 use Rattle.faults.specs.Classes.{faultOf, stuckFaults, missingGates, missingControls, extraControls, classFaults, isClass}
 use Rattle.judge.specs.Judging.{caughtBySome, caughtOf, uncaughtOf, verdict}
@@ -46,7 +42,6 @@ use Rattle.dropping.specs.Dropping.{uncaught, dropped, wordsOf}
 use Rattle.dropping.specs.Rules.{badRecord, recordRows, dropRows, dropRecordsRows}
 use Rattle.testsets.specs.Log2.{log2In, log2}
 use Rattle.testsets.specs.Sets.{score, bestOf, best, picks, bound, compactSet, backwardInput, backwardSet}
-use Rattle.faults.specs.Sites.{siteCount}
 use Rattle.testsets.specs.Rules.{backwardRows, compactRows}
 use Rattle.job.specs.Bytes.{bytesOf, numberAt, wordsAt}
 use Rattle.job.specs.Image.{header, rowBytes, gateCount, image, linesIn, classesIn, gatesIn, vectorsIn, gateWords, vectorWords}

@@ -29,9 +29,8 @@ use Rattle.job.specs.declared.Written.the-variants as written
 use Rattle.report_text.specs.Answers.{toldReported}
 use Rattle.report_text.specs.declared.Reported.the-variants as reported
 use Rattle.answers.specs.Fields.{fields}
-use Rattle.borders.specs.Rows.{Row}
+use Rattle.borders.specs.Rows.{Row, fault}
 use Rattle.borders.specs.Rows.Row.{_tells_, _gives_}
-use Rattle.borders.specs.Rows.{fault}
 
 -- rule 7 at place 2
 abbrev pub seven : Refusal

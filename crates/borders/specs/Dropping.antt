@@ -5,10 +5,9 @@ use Rattle.refusals.specs.Tables.Told.{answered, refused}
 use Rattle.faults.specs.declared.Fault.{Fault}
 use Rattle.dropping.specs.Dropping.{wordsOf}
 use Rattle.proved_samples.specs.Sample.{sampleWords}
-use Rattle.borders.specs.Rows.{Row}
+use Rattle.borders.specs.Rows.{Row, fault}
 use Rattle.borders.specs.Rows.Row.{_tells_, _gives_}
 use Rattle.dropping.specs.Promises.{dropTells, dropLeaves, dropRecordsTells, dropRecordsLeaves}
-use Rattle.borders.specs.Rows.{fault}
 
 -- gate 1 missing, level 0 line 0 stuck at 0, gate 1 without control 0: vector 3 catches the first two, vector 7 too, vector 0 none
 abbrev pub three : List ℕ

@@ -3,11 +3,10 @@
 use mathlib.Core.List.{List, [], _∷_}
 use Rattle.refusals.specs.Tables.Told.{answered, refused}
 use Rattle.proved_samples.specs.Sample.{sampleWords}
-use Rattle.borders.specs.Rows.{Row}
+use Rattle.borders.specs.Rows.{Row, fault}
 use Rattle.borders.specs.Rows.Row.{_tells_}
 use Rattle.simulator.specs.Promises.{outputTells, catchesTells}
 use Rattle.fault_test.specs.Promises.{testForTells}
-use Rattle.borders.specs.Rows.{fault}
 
 unfoldable pub faultTable : List Row
 faultTable =

@@ -9,15 +9,13 @@ use Rattle.refusals.specs.Tables.Told.{answered, refused}
 use Rattle.judge.specs.Coverages.{emptyCoverage}
 use Rattle.testsets.specs.Rules.{backwardRows, compactRows}
 use Rattle.job.specs.Rules.{headerRows}
-use Rattle.borders.specs.Rows.{Row}
+use Rattle.borders.specs.Rows.{Row, fault}
 use Rattle.borders.specs.Rows.Row.{_tells_, _gives_}
 use Rattle.circuit.specs.Promises.{forwardTells, backwardTells}
 use Rattle.simulator.specs.Promises.{outputTells, catchesTells}
 use Rattle.multiple_faults.specs.Promises.{catchesMultipleTells}
 use Rattle.fault_test.specs.Promises.{testForTells}
-use Rattle.judge.specs.Promises.{judgeTells, withVectorTells}
-use Rattle.borders.specs.Rows.{fault}
-use Rattle.judge.specs.Promises.{countTells}
+use Rattle.judge.specs.Promises.{judgeTells, withVectorTells, countTells}
 use Rattle.dropping.specs.Promises.{dropTells, dropRecordsTells}
 use Rattle.testsets.specs.Promises.{backwardSetTells, compactSetTells}
 use Rattle.job.specs.Promises.{writeTells, writeLeaves}

@@ -9,11 +9,10 @@ use Rattle.faults.specs.Classes.{classFaults}
 use Rattle.dropping.specs.Dropping.{wordsOf}
 use Rattle.circuit.specs.Gates.{gatesOf}
 use Rattle.proved_samples.specs.Sample.{sampleWords}
-use Rattle.borders.specs.Rows.{Row}
+use Rattle.borders.specs.Rows.{Row, fault}
 use Rattle.borders.specs.Rows.Row.{_tells_, _gives_}
 use Rattle.simulator.specs.Promises.{outputTells}
 use Rattle.fault_test.specs.Promises.{testForTells}
-use Rattle.borders.specs.Rows.{fault}
 
 -- the vectors of 3 lines that catch a fault of the sample circuit
 abbrev pub catching : Fault → List ℕ

@@ -6,14 +6,13 @@ use lib.ListN.{replicate}
 use Rattle.refusals.specs.Tables.Told.{refused}
 use Rattle.faults.specs.declared.Fault.{Fault}
 use Rattle.judge.specs.Coverages.{emptyCoverage}
-use Rattle.borders.specs.Rows.{Row}
+use Rattle.borders.specs.Rows.{Row, fault}
 use Rattle.borders.specs.Rows.Row.{_tells_}
 use Rattle.circuit.specs.Promises.{forwardTells}
 use Rattle.simulator.specs.Promises.{catchesTells}
 use Rattle.multiple_faults.specs.Promises.{catchesMultipleTells}
 use Rattle.fault_test.specs.Promises.{testForTells}
 use Rattle.judge.specs.Promises.{judgeTells, withVectorTells, countTells}
-use Rattle.borders.specs.Rows.{fault}
 use Rattle.dropping.specs.Promises.{dropTells, dropRecordsTells}
 use Rattle.testsets.specs.Promises.{backwardSetTells, compactSetTells}
 

@@ -11,8 +11,7 @@ use Rattle.circuit.proofs.backward.Reads as backward
 use Rattle.faults.specs.Rules.{faultRows}
 use Rattle.simulator.specs.Rules.{catchRows}
 use Rattle.fault_test.specs.Rules.{testRows}
-use Rattle.multiple_faults.specs.Rules.{entriesRows}
-use Rattle.multiple_faults.specs.Rules.{multipleRows}
+use Rattle.multiple_faults.specs.Rules.{entriesRows, multipleRows}
 use Rattle.simulator.specs.Answers.{toldOutput, toldCaught}
 use Rattle.fault_test.specs.Answers.{toldTest}
 use Rattle.simulator.proofs.faulty_run.Reads as faulty-run

@@ -8,8 +8,7 @@ use Rattle.circuit.specs.Rules.{circuitSetRows, circuitRows, setRows, vectorRow
 use Rattle.faults.specs.Rules.{faultRows}
 use Rattle.simulator.specs.Rules.{catchRows}
 use Rattle.fault_test.specs.Rules.{testRows}
-use Rattle.multiple_faults.specs.Rules.{entriesRows}
-use Rattle.multiple_faults.specs.Rules.{multipleRows}
+use Rattle.multiple_faults.specs.Rules.{entriesRows, multipleRows}
 use Rattle.judge.specs.Rules.{classRows, judgeRows}
 use Rattle.judge.specs.Judging.{verdict}
 use Rattle.dropping.specs.Rules.{recordRows, dropRows, dropRecordsRows}

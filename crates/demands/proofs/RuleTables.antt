@@ -8,10 +8,9 @@ use Rattle.circuit.specs.Rules.{circuitSetRows, circuitRows, setRows, vectorRow
 use Rattle.circuit.proofs.GateLaws.{gates-count}
 use Rattle.faults.specs.Rules.{faultRows}
 use Rattle.faults.specs.Records.{faultsOf}
-use Rattle.multiple_faults.specs.Rules.{entriesRows}
+use Rattle.multiple_faults.specs.Rules.{entriesRows, multipleRows}
 use Rattle.faults.specs.declared.Fault.{Fault}
 use Rattle.simulator.specs.Rules.{catchRows}
-use Rattle.multiple_faults.specs.Rules.{multipleRows}
 use Rattle.fault_test.specs.Rules.{testRows}
 use Rattle.judge.specs.Rules.{classRows, judgeRows, countRows}
 use Rattle.dropping.specs.Rules.{recordRows, dropRows, dropRecordsRows}

@@ -20,8 +20,7 @@ use Rattle.faults.specs.Rules.{faultRows}
 use Rattle.simulator.specs.Rules.{catchRows}
 use Rattle.faults.specs.Records.{faultsOf}
 use Rattle.multiple_faults.specs.Multiple.{caughtTogether}
-use Rattle.multiple_faults.specs.Rules.{entriesRows}
-use Rattle.multiple_faults.specs.Rules.{multipleRows}
+use Rattle.multiple_faults.specs.Rules.{entriesRows, multipleRows}
 use Rattle.faults.specs.declared.Fault.{Fault}
 use Rattle.simulator.proofs.RuleLaws.{catch-ok}
 use Rattle.testsets.proofs.Multiple.{deepest, deepest-caught}

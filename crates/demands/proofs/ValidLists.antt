@@ -20,8 +20,7 @@ use Rattle.circuit.specs.declared.Gate.{Gate}
 use Rattle.faults.specs.Rules.{isStuckAt}
 use Rattle.faults.specs.Records.{faultsOf, firstBadRecord}
 use Rattle.multiple_faults.specs.Multiple.{badEntry, sameSite, siteTwice}
-use Rattle.multiple_faults.specs.Rules.{entriesRows}
-use Rattle.multiple_faults.specs.Rules.{multipleRows}
+use Rattle.multiple_faults.specs.Rules.{entriesRows, multipleRows}
 use Rattle.faults.specs.declared.Fault.{Fault}
 use Rattle.faults.proofs.RecordLaws.{records-count}
 use Rattle.faults.proofs.RuleLaws.{class-one}

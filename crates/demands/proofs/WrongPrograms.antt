@@ -22,7 +22,7 @@ use Rattle.circuit.specs.Rules.{badLines, badCounts, badGate, firstBadGate, fir
 use Rattle.simulator.specs.Faulty.{forceAt, stuckRun, without, faulty, caught}
 use Rattle.faults.specs.Rules.{isStuckAt, isGate, isMissingGate, isMissingControl, isExtraControl, isFault}
 use Rattle.faults.specs.Records.{noFault, faultsOf, firstBadRecord}
-use Rattle.faults.specs.Sites.{sites}
+use Rattle.faults.specs.Sites.{sites, siteCount}
 use Rattle.faults.specs.declared.Fault.{Fault}
 use Rattle.faults.specs.Classes.{faultOf, stuckFaults, classFaults, isClass}
 use Rattle.judge.specs.Judging.{caughtBySome, uncaughtOf, verdict}
@@ -37,7 +37,6 @@ use Rattle.dropping.proofs.drop.Reads as drop-call
 use Rattle.testsets.proofs.compact_set.Reads as compact-set
 use Rattle.testsets.specs.Log2.{log2In, log2}
 use Rattle.testsets.specs.Sets.{score, bestOf, best, picks, bound, compactSet}
-use Rattle.faults.specs.Sites.{siteCount}
 use Rattle.testsets.specs.Rules.{compactRows}
 use Rattle.job.specs.Bytes.{numberAt, wordsAt}
 use Rattle.job.specs.Image.{linesIn, classesIn, gatesIn, vectorsIn, gateWords, vectorWords}

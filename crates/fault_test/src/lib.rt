@@ -6,8 +6,8 @@ use faults::Fault;
 use refusals::Checked;
 use refusals::Refusal;
 
-pub mod checked;
-pub mod rules;
+mod checked;
+mod rules;
 
 // A vector that catches a fault.
 pub enum Test {

@@ -78,7 +78,7 @@ fn judge_gates(class: u32, lines: u32, gates: &[u32], vectors: &[u32]) -> Verdic
 // The verdict on a set for a class.
 pub fn judge_class(lines: u32, gates: &[u32], vectors: &[u32], class: u32) -> Verdict
     requires { ⌜ Sound lines (now gates) ⌝ }
-    requires { ⌜ (1 ≤ class) × (class ≤ 4) ⌝ }
+    requires { ⌜ 1 ≤ class ⌝ }
     ensures { λ r. ⌜ toldVerdict r ≡ setVerdict lines (gatesOf (now (gates .entry))) (now (vectors .entry)) class ⌝ }
 {
     if class == 1 {

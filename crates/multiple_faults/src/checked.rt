@@ -50,7 +50,7 @@ fn force_level(lines: u32, gates: &[u32], entries: &[u32], level: LevelNumber, s
 }
 
 // The good state and the faulty one, side by side.
-pub struct Both {
+struct Both {
     good: u32,
     faulty: u32,
 }
@@ -68,7 +68,7 @@ fn force_faulty(lines: u32, gates: &[u32], entries: &[u32], level: LevelNumber, 
 }
 
 // The good output, and the output with several lines stuck.
-pub fn run_stuck(lines: u32, gates: &[u32], entries: &[u32], vector: u32) -> Both
+fn run_stuck(lines: u32, gates: &[u32], entries: &[u32], vector: u32) -> Both
     requires { ⌜ Sound lines (now gates) ⌝ }
     requires { ⌜ Entries lines (gatesOf (now gates)) (now entries) ⌝ }
     ensures { λ r. ⌜ (r .good ≡ run (gatesOf (now (gates .entry))) vector)

@@ -6,9 +6,9 @@ use refusals::Checked;
 use simulator::Caught;
 use simulator::yes_or_no;
 
-pub mod checked;
-pub mod limits;
-pub mod rules;
+mod checked;
+mod limits;
+mod rules;
 
 // Whether a vector catches a multiple stuck-at fault, lent as a plain list of entries.
 pub fn catches_multiple(lines: u32, gates: &[u32], vector: u32, entries: &[u32]) -> Caught

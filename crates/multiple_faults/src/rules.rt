@@ -19,7 +19,7 @@ use refusals::Checked;
 use refusals::Refusal;
 
 // Whether a record is no entry of a multiple fault.
-pub fn bad_entry(lines: u32, gates: &[u32], fault: Fault) -> bool
+fn bad_entry(lines: u32, gates: &[u32], fault: Fault) -> bool
     requires { ⌜ Sound lines (now gates) ⌝ }
     ensures { λ r. ⌜ r ≡ badEntry lines (gatesOf (now (gates .entry))) fault ⌝ }
 {
@@ -30,7 +30,7 @@ pub fn bad_entry(lines: u32, gates: &[u32], fault: Fault) -> bool
 }
 
 // The place of the first record that is no entry, and 0 where all are; words left over are one more bad record.
-pub fn first_bad_entry(lines: u32, gates: &[u32], entries: &[u32]) -> usize
+fn first_bad_entry(lines: u32, gates: &[u32], entries: &[u32]) -> usize
     requires { ⌜ Sound lines (now gates) ⌝ }
     ensures { λ r. ⌜ r ≡ firstBadRecord (badEntry lines (gatesOf (now (gates .entry)))) (now (entries .entry)) ⌝ }
 {
@@ -46,7 +46,7 @@ pub fn first_bad_entry(lines: u32, gates: &[u32], entries: &[u32]) -> usize
 }
 
 // Whether two records name one site.
-pub fn same_site(a: Fault, b: Fault) -> bool
+fn same_site(a: Fault, b: Fault) -> bool
     ensures { λ r. ⌜ r ≡ sameSite a b ⌝ }
 {
     if a.place != b.place {
@@ -56,7 +56,7 @@ pub fn same_site(a: Fault, b: Fault) -> bool
 }
 
 // Whether a later record names the site of this one.
-pub fn named_again(entries: &[u32], ahead: usize) -> bool
+fn named_again(entries: &[u32], ahead: usize) -> bool
     requires { ⌜ 4 * ahead + 4 ≤ length (now entries) ⌝ }
     ensures { λ r. ⌜ r ≡ some (sameSite (getD (faultsOf (now (entries .entry))) ahead noFault))
         (drop (ahead + 1) (faultsOf (now (entries .entry)))) ⌝ }
@@ -74,7 +74,7 @@ pub fn named_again(entries: &[u32], ahead: usize) -> bool
 }
 
 // Whether a site is named twice.
-pub fn site_twice(entries: &[u32]) -> bool
+fn site_twice(entries: &[u32]) -> bool
     ensures { λ r. ⌜ r ≡ siteTwice (faultsOf (now (entries .entry))) ⌝ }
 {
     let whole = entries.len() / 4;
@@ -89,7 +89,7 @@ pub fn site_twice(entries: &[u32]) -> bool
 }
 
 // Rules 9 and 13 of the entries of a multiple fault.
-pub fn check_entries(lines: u32, gates: &[u32], entries: &[u32]) -> Checked
+fn check_entries(lines: u32, gates: &[u32], entries: &[u32]) -> Checked
     requires { ⌜ Sound lines (now gates) ⌝ }
     ensures { λ r. ⌜ found r ≡ firstOf (entriesRows lines (now (gates .entry)) (now (entries .entry))) fine ⌝ }
 {

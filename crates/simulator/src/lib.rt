@@ -10,7 +10,7 @@ use refusals::Checked;
 use refusals::Refusal;
 
 pub mod checked;
-pub mod rules;
+mod rules;
 
 // The output of a circuit with a fault in it.
 pub enum Output {

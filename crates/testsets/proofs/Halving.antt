@@ -25,8 +25,7 @@ use Rattle.faults.specs.declared.Fault.{Fault}
 use Rattle.simulator.proofs.FaultyLaws.{stuck-caught}
 use Rattle.judge.specs.Judging.{uncaughtOf}
 use Rattle.testsets.specs.Sets.{score, bestOf, best}
-use Rattle.testsets.proofs.TotalLaws.{total, total-cong, total-add, total-const, total-flip, total-forward}
-use Rattle.testsets.proofs.TotalLaws.{some-above}
+use Rattle.testsets.proofs.TotalLaws.{total, total-cong, total-add, total-const, total-flip, total-forward, some-above}
 use Rattle.testsets.proofs.SetLaws.{score-cons, score-uncaught}
 
 -- ---- one fault

@@ -23,8 +23,7 @@ use Rattle.circuit.specs.Sound.{GateOk, AllOk}
 use Rattle.circuit.specs.declared.Gate.{Gate}
 use Rattle.circuit.proofs.RunLaws.{run-injective, run-from-level}
 use Rattle.simulator.specs.Faulty.{caught, forceAt, stuckRun}
-use Rattle.multiple_faults.specs.Multiple.{caughtTogether}
-use Rattle.multiple_faults.specs.Multiple.{sameSite, siteTwice}
+use Rattle.multiple_faults.specs.Multiple.{caughtTogether, sameSite, siteTwice}
 use Rattle.faults.specs.Stuck.{StuckOk}
 use Rattle.faults.specs.declared.Fault.{Fault}
 use Rattle.simulator.proofs.FaultyLaws.{arrive, stuck-from, stuck-caught}

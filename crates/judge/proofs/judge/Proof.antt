@@ -23,7 +23,7 @@ judge-class-requires c κs =
     let a = checked .before .before .before .args in
     let ok = judge-ok (a .lines) (a .gates .now) (a .vectors .now) (a .class)
     (ap found (sym (c .enum-told .given .1)) ∙ checked .check-judge .ensures) in
-    (ok .set .set .circuit, ok .class-in)
+    (ok .set .set .circuit, ok .class-in .0)
 
 returns : tie.Need-returns
 returns c =

@@ -6,8 +6,7 @@ use Rattle.refusals.specs.Checks.{fine, found}
 use Rattle.refusals.proofs.Tables.{refused-on, fine-on}
 use Rattle.circuit.specs.Rules.{circuitRows, vectorRows}
 use Rattle.circuit.proofs.RuleLaws.{vector-ok}
-use Rattle.multiple_faults.specs.Rules.{entriesRows}
-use Rattle.multiple_faults.specs.Rules.{multipleRows}
+use Rattle.multiple_faults.specs.Rules.{entriesRows, multipleRows}
 use borrow.Author.Needs.{needs}
 use Rattle.multiple_faults.proofs.rules.check_multiple.Statement.{statement}
 use Rattle.multiple_faults.proofs.rules.check_multiple.Tie as tie
