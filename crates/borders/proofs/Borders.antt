@@ -43,7 +43,7 @@ use Rattle.dropping.specs.Rules.{badRecord, recordRows, dropRows, dropRecordsRo
 use Rattle.testsets.specs.Log2.{log2In, log2}
 use Rattle.testsets.specs.Sets.{score, bestOf, best, picks, bound, compactSet, backwardInput, backwardSet}
 use Rattle.testsets.specs.Rules.{backwardRows, compactRows}
-use Rattle.job.specs.Bytes.{bytesOf, numberAt, wordsAt}
+use Rattle.bytes.specs.Bytes.{bytesOf, numberAt, wordsAt}
 use Rattle.job.specs.Image.{header, rowBytes, gateCount, image, linesIn, classesIn, gatesIn, vectorsIn, gateWords, vectorWords}
 use Rattle.job.specs.Rules.{badClasses, badSizes, headerRows, contentRows, readRows, writeRows}
 use Rattle.text.specs.Decimal.{digit, decimalIn, decimal}

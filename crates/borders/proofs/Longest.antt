@@ -15,7 +15,7 @@ use Rattle.refusals.proofs.Tables.{fine-all}
 use Rattle.circuit.specs.Gates.{gatesOf}
 use Rattle.circuit.specs.Controls.{isControl}
 use Rattle.circuit.specs.Rules.{badLines, badCounts, badGate, firstBadGate, firstBadVector}
-use Rattle.job.specs.Bytes.{bytesOf}
+use Rattle.bytes.specs.Bytes.{bytesOf}
 use Rattle.job.specs.Image.{header, rowBytes, gateCount, image, linesIn, classesIn, gateWords, vectorWords}
 use Rattle.job.specs.Rules.{badClasses, contentRows, readRows, writeRows}
 use Rattle.job.proofs.RoundTrip.{Holds, read-written, read-written-fine}

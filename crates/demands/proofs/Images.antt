@@ -8,7 +8,7 @@ use mathlib.Core.List.{List}
 use native.Mathlib.Omega.{arith}
 use lib.ListN.{length, take}
 use Rattle.job.specs.Image.{image, linesIn, classesIn, gatesIn, vectorsIn, gateWords, vectorWords, gateCount}
-use Rattle.job.proofs.NumberLaws.{Bytes}
+use Rattle.bytes.proofs.NumberLaws.{Bytes}
 use Rattle.circuit.proofs.WordLaws.{words-whole}
 use Rattle.job.proofs.WriteLaws.{write-ok}
 use Rattle.job.proofs.RoundTrip.{read-written, read-written-fine, written-read}

@@ -15,13 +15,13 @@ use Rattle.circuit.specs.Rules.{firstBadGate, firstBadVector, circuitSetRows, s
 use Rattle.circuit.specs.declared.Gate.{Gate}
 use Rattle.circuit.proofs.GateLaws.{gates-count}
 use Rattle.circuit.proofs.RuleLaws.{lines-good, counts-good, VectorsOk, vectors-ok}
-use Rattle.job.specs.Bytes.{bytesOf}
+use Rattle.bytes.specs.Bytes.{bytesOf}
 use Rattle.job.specs.Image.{header, rowBytes, gateCount, image, linesIn, classesIn, gatesIn, vectorsIn, gateWords, vectorWords}
 use Rattle.job.specs.Rules.{readRows, writeRows}
 use Rattle.job.specs.Answers.{toldRead, toldWritten}
 use Rattle.job.proofs.ReadLaws.{read-ok}
 use Rattle.job.proofs.WriteLaws.{write-ok}
-use Rattle.job.proofs.ByteLaws.{length-words}
+use Rattle.bytes.proofs.ByteLaws.{length-words}
 use Rattle.job.proofs.RoundTrip.{written-read}
 use Rattle.job.proofs.read_job.Reads as read-job
 use Rattle.job.proofs.write_job.Reads as write-job

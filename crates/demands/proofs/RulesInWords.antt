@@ -21,7 +21,7 @@ use Rattle.multiple_faults.specs.Multiple.{badEntry}
 use Rattle.faults.specs.declared.Fault.{Fault}
 use Rattle.faults.specs.Classes.{isClass}
 use Rattle.dropping.specs.Rules.{badRecord}
-use Rattle.job.specs.Bytes.{numberAt, wordsAt}
+use Rattle.bytes.specs.Bytes.{numberAt, wordsAt}
 use Rattle.job.specs.Image.{gatesIn, vectorsIn}
 use Rattle.job.specs.Rules.{badClasses, badSizes}
 use Rattle.demands.proofs.Machine.{Control, Has}

@@ -38,7 +38,7 @@ use Rattle.testsets.proofs.compact_set.Reads as compact-set
 use Rattle.testsets.specs.Log2.{log2In, log2}
 use Rattle.testsets.specs.Sets.{score, bestOf, best, picks, bound, compactSet}
 use Rattle.testsets.specs.Rules.{compactRows}
-use Rattle.job.specs.Bytes.{numberAt, wordsAt}
+use Rattle.bytes.specs.Bytes.{numberAt, wordsAt}
 use Rattle.job.specs.Image.{linesIn, classesIn, gatesIn, vectorsIn, gateWords, vectorWords}
 use Rattle.job.specs.Rules.{badClasses, badSizes, readRows, headerRows, contentRows}
 use Rattle.job.specs.Answers.{toldRead}

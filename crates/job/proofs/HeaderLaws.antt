@@ -17,7 +17,7 @@ use Rattle.refusals.proofs.Tables.{fine-row}
 use Rattle.circuit.specs.Limits.{mostLines, mostGates, mostVectors}
 use Rattle.circuit.specs.Rules.{badLines, badCounts}
 use Rattle.circuit.proofs.RuleLaws.{lines-right, counts-right}
-use Rattle.job.specs.Bytes.{numberAt}
+use Rattle.bytes.specs.Bytes.{numberAt}
 use Rattle.job.specs.Image.{headerLength, pastGates, pastVectors, linesIn, classesIn, gatesIn, vectorsIn}
 use Rattle.job.specs.Rules.{badClasses, badSizes, headerRows}
 

@@ -7,11 +7,11 @@ use lib.ListN.{length, take, drop, length-append}
 use lib.Seq.{sets, take-at, length-take-le}
 use Rattle.basics.specs.Lists.{each, onto}
 use Rattle.basics.proofs.Lists.{length-each}
-use Rattle.job.specs.Bytes.{bytesOf, wordsAt}
+use Rattle.bytes.specs.Bytes.{bytesOf, wordsAt}
 use Rattle.job.specs.Image.{headerLength, pastGates, pastVectors, header, rowBytes, gateCount, image}
 use Rattle.job.specs.Image.{gatesIn, vectorsIn, gateWords, vectorWords}
 use Rattle.basics.proofs.PutLaws.{sets-append, sets-front}
-use Rattle.job.proofs.ByteLaws.{length-bytes, length-words}
+use Rattle.bytes.proofs.ByteLaws.{length-bytes, length-words}
 
 -- ---- lengths
 

@@ -1,6 +1,5 @@
-pub mod ByteLaws
 pub mod ImageLaws
-pub mod NumberLaws
+pub mod RowLaws
 pub mod TurnLaws
 pub mod HeaderLaws
 pub mod ReadLaws

@@ -15,7 +15,7 @@ use Rattle.refusals.specs.Tables.Row.{refuse_at_when_}
 use Rattle.refusals.specs.Tables.Told.{refused}
 use Rattle.refusals.specs.Checks.{fine}
 use Rattle.refusals.proofs.Tables.{refused-on}
-use Rattle.job.specs.Bytes.{numberAt}
+use Rattle.bytes.specs.Bytes.{numberAt}
 use Rattle.job.specs.Image.{longestJob, linesIn, classesIn, gatesIn, vectorsIn}
 use Rattle.circuit.specs.Rules.{badLines, badCounts}
 use Rattle.job.specs.Rules.{badClasses, badSizes, headerRows, readRows}

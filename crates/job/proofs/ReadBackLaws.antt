@@ -10,7 +10,7 @@ use Rattle.refusals.specs.Checks.{fine}
 use Rattle.circuit.specs.Rules.{firstBadGate, firstBadVector, badLines, badCounts}
 use Rattle.job.specs.Image.{linesIn, classesIn, gatesIn, vectorsIn, gateWords, vectorWords, gateCount, image}
 use Rattle.job.specs.Rules.{badClasses, readRows, writeRows, contentRows}
-use Rattle.job.proofs.ByteLaws.{length-words}
+use Rattle.bytes.proofs.ByteLaws.{length-words}
 use Rattle.job.proofs.WriteLaws.{JobOk}
 use Rattle.job.proofs.ReadLaws.{read-ok}
 

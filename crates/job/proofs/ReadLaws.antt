@@ -16,7 +16,7 @@ use Rattle.refusals.specs.declared.Checked.{Checked}
 use Rattle.refusals.proofs.Tables.{refused-on, fine-on, fine-row, fine-parts}
 use Rattle.circuit.specs.Rules.{firstBadGate, firstBadVector, circuitSetRows, setRows}
 use Rattle.circuit.proofs.RuleLaws.{VectorsOk, vectors-ok, lines-good, counts-good, set-fine}
-use Rattle.job.specs.Bytes.{numberAt}
+use Rattle.bytes.specs.Bytes.{numberAt}
 use Rattle.job.specs.Image.{headerLength, pastGates, pastVectors, linesIn, classesIn, gatesIn, vectorsIn, gateWords, vectorWords}
 use Rattle.job.specs.Rules.{badClasses, badSizes, badRoom, headerRows, contentRows, contentRowsIn, roomRows, readRows}
 use Rattle.job.specs.Turns.{sooner}

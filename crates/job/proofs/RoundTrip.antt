@@ -12,12 +12,13 @@ use Rattle.refusals.specs.Tables.{firstOf}
 use Rattle.refusals.specs.Checks.{fine}
 use Rattle.circuit.specs.Rules.{firstBadGate, firstBadVector}
 use Rattle.circuit.proofs.WordLaws.{words-fit, words-whole, vectors-fit}
-use Rattle.job.specs.Bytes.{bytesOf, numberAt, wordsAt}
+use Rattle.bytes.specs.Bytes.{bytesOf, numberAt, wordsAt}
 use Rattle.job.specs.Image.{headerLength, pastGates, pastVectors, header, rowBytes, gateCount, image}
 use Rattle.job.specs.Image.{linesIn, classesIn, gatesIn, vectorsIn, gateWords, vectorWords}
 use Rattle.job.specs.Rules.{readRows, writeRows}
 use Rattle.job.proofs.ImageLaws.{length-header, length-words-bytes, length-image, length-gate-words, length-vector-words}
-use Rattle.job.proofs.NumberLaws.{Bytes, Placed, Stands, rows-there, words-there, words-on, rows-on}
+use Rattle.bytes.proofs.NumberLaws.{Bytes, words-there, words-on}
+use Rattle.job.proofs.RowLaws.{Placed, Stands, rows-there, rows-on}
 use Rattle.job.proofs.HeaderLaws.{HeaderOk}
 use Rattle.job.proofs.ReadLaws.{ReadOk, read-ok, ok-read}
 use Rattle.job.proofs.WriteLaws.{JobOk, write-ok}

@@ -4,7 +4,7 @@ use mathlib.Core.List.{List, [], _∷_, _++_}
 use lib.ListN.{length}
 use Rattle.basics.specs.Lists.{each}
 use Rattle.circuit.specs.Limits.{mostGates, mostVectors}
-use Rattle.job.specs.Bytes.{bytesOf, numberAt, wordsAt}
+use Rattle.bytes.specs.Bytes.{bytesOf, numberAt, wordsAt}
 
 -- how many bytes the header has
 abbrev pub headerLength : ℕ

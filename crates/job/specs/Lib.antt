@@ -1,4 +1,3 @@
-pub mod Bytes
 pub mod Image
 pub mod Rules
 pub mod Turns

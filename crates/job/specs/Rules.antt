@@ -7,7 +7,7 @@ use lib.Dec.{eqb, ltb}
 use Rattle.refusals.specs.Tables.{Row}
 use Rattle.refusals.specs.Tables.Row.{refuse_at_when_}
 use Rattle.circuit.specs.Rules.{badLines, badCounts, firstBadGate, firstBadVector}
-use Rattle.job.specs.Bytes.{numberAt}
+use Rattle.bytes.specs.Bytes.{numberAt}
 use Rattle.job.specs.Image.{headerLength, pastGates, pastVectors, gateCount, image}
 use Rattle.job.specs.Image.{linesIn, classesIn, gatesIn, vectorsIn, gateWords, vectorWords}
 

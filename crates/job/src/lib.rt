@@ -10,7 +10,6 @@ use circuit::limits::MOST_VECTORS;
 use refusals::Checked;
 use refusals::Refusal;
 
-mod bytes;
 mod header;
 pub mod limits;
 mod reading;

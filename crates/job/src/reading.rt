@@ -8,9 +8,9 @@ ghost use Rattle.refusals.specs.Checks.{fine};
 ghost use Rattle.job.specs.Image.{pastVectors, linesIn, classesIn, gatesIn, vectorsIn, gateWords, vectorWords};
 ghost use Rattle.job.specs.Rules.{readRows};
 use crate::Read;
-use crate::bytes;
 use crate::header;
 use crate::limits::HEADER;
+use bytes::checked::read_words;
 
 // The gates and the vectors of an image that holds as many as its header says.
 pub fn read_lists(image: &[u8], gates: &mut [u32], vectors: &mut [u32])
@@ -21,8 +21,8 @@ pub fn read_lists(image: &[u8], gates: &mut [u32], vectors: &mut [u32])
 {
     let words = 3 * (header::gates_in(image) as usize);
     let count = header::vectors_in(image) as usize;
-    bytes::read_words(image, HEADER, &mut gates[..words]);
-    bytes::read_words(image, HEADER + 4 * words, &mut vectors[..count]);
+    read_words(image, HEADER, &mut gates[..words]);
+    read_words(image, HEADER + 4 * words, &mut vectors[..count]);
 }
 
 // The job of an image that breaks no rule.

@@ -7,14 +7,15 @@ ghost use lib.Dec.{eqb};
 ghost use Rattle.refusals.specs.Tables.{firstOf};
 ghost use Rattle.refusals.specs.Checks.{fine, found};
 ghost use Rattle.circuit.specs.Limits.{mostLines, mostGates, mostVectors};
-ghost use Rattle.job.specs.Bytes.{numberAt};
+ghost use Rattle.bytes.specs.Bytes.{numberAt};
 ghost use Rattle.job.specs.Image.{headerLength, classesIn};
 ghost use Rattle.job.specs.Rules.{badClasses, badSizes, badRoom, headerRows, contentRows, contentRowsIn, readRows, writeRows};
 ghost use Rattle.job.specs.Turns.{sooner};
-use crate::bytes;
 use crate::header;
 use crate::limits::HEADER;
 use crate::reading;
+use bytes::checked::number_at_2;
+use bytes::checked::number_at_4;
 use circuit;
 use circuit::rules::bad_counts;
 use circuit::rules::bad_lines;
@@ -37,7 +38,7 @@ fn bad_classes_in(image: &[u8]) -> bool
     if bad_classes(header::classes_in(image)) {
         return true;
     }
-    bytes::number_at_2(image, 6) != 0
+    number_at_2(image, 6) != 0
 }
 
 // Whether an offset or the length is not as the counts say, or the bytes are not that many.
@@ -47,9 +48,9 @@ fn bad_sizes(image: &[u8]) -> bool
 {
     let gates = header::gates_in(image) as u64;
     let vectors = header::vectors_in(image) as u64;
-    let gates_at = bytes::number_at_4(image, 16) as u64;
-    let vectors_at = bytes::number_at_4(image, 20) as u64;
-    let end = bytes::number_at_4(image, 24) as u64;
+    let gates_at = number_at_4(image, 16) as u64;
+    let vectors_at = number_at_4(image, 20) as u64;
+    let end = number_at_4(image, 24) as u64;
     let past_header = HEADER as u64;
     let past_gates = past_header + 12 * gates;
     let past_vectors = past_gates + 4 * vectors;
@@ -75,7 +76,7 @@ fn check_header(image: &[u8]) -> Checked
             place: 0,
         });
     }
-    if bytes::number_at_2(image, 0) != 1 {
+    if number_at_2(image, 0) != 1 {
         return Checked::Wrong(Refusal {
             number: 2,
             place: 0,

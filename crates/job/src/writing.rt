@@ -6,23 +6,24 @@ ghost use lib.Seq.{sets};
 ghost use Rattle.basics.specs.Lists.{each, onto};
 ghost use Rattle.circuit.specs.Limits.{mostGates, mostVectors};
 ghost use Rattle.job.specs.Image.{headerLength, header, rowBytes, gateCount, image};
-use crate::bytes;
 use crate::limits::HEADER;
+use bytes::checked::put_2;
+use bytes::checked::put_words;
 
 // The header of a job.
 fn put_header(out: &mut [u8], lines: u32, classes: u32, gates: u32, vectors: u32)
     requires { ⌜ (headerLength ≤ length (now out)) × ((gates ≤ mostGates) × (vectors ≤ mostVectors)) ⌝ }
     ensures { λ _. ⌜ now (out .exit) ≡ sets (now (out .entry)) 0 (each rowBytes (header lines classes gates vectors)) ⌝ }
 {
-    bytes::put_2(out, 0, 1);
-    bytes::put_2(out, 2, lines);
-    bytes::put_2(out, 4, classes);
-    bytes::put_2(out, 6, 0);
+    put_2(out, 0, 1);
+    put_2(out, 2, lines);
+    put_2(out, 4, classes);
+    put_2(out, 6, 0);
     let past_header = HEADER as u32;
     let past_gates = past_header + 12 * gates;
     let past_vectors = past_gates + 4 * vectors;
     let sizes = [gates, vectors, past_header, past_gates, past_vectors];
-    bytes::put_words(out, 8, &sizes);
+    put_words(out, 8, &sizes);
 }
 
 // The image of a job that breaks no rule, and its length.
@@ -40,7 +41,7 @@ pub fn write_image(lines: u32, classes: u32, gates: &[u32], vectors: &[u32], out
         vectors.len() as u32,
     );
     let past_gates = HEADER + 4 * gates.len();
-    bytes::put_words(out, HEADER, gates);
-    bytes::put_words(out, past_gates, vectors);
+    put_words(out, HEADER, gates);
+    put_words(out, past_gates, vectors);
     (past_gates + 4 * vectors.len()) as u32
 }

@@ -5,7 +5,7 @@ use mathlib.Core.List.{List}
 use Prim.Native.Nat.{ℕ}
 use lib.Dec.{eqb}
 use Rattle.circuit.specs.Rules.{badLines, badCounts}
-use Rattle.job.specs.Bytes.{numberAt}
+use Rattle.bytes.specs.Bytes.{numberAt}
 use Rattle.job.specs.Image.{linesIn, classesIn, gatesIn, vectorsIn}
 use Rattle.job.specs.Rules.{badClasses}
 use Rattle.job.proofs.HeaderLaws.{header-short, header-form, header-lines, header-classes, header-counts, header-sizes}

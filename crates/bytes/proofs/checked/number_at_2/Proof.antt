@@ -1,10 +1,10 @@
--- `job::bytes::number_at_2` meets its contract: two bytes, the second 256 times. Assumes nothing.
+-- `bytes::checked::number_at_2` meets its contract: two bytes, the second 256 times. Assumes nothing.
 use Prim.Native.Nat.{_+_}
 use native.Mathlib.Omega.{arith}
-use Rattle.job.proofs.ByteLaws.{number-two}
+use Rattle.bytes.proofs.ByteLaws.{number-two}
 use borrow.Author.Needs.{needs}
-use Rattle.job.proofs.bytes.number_at_2.Statement.{statement}
-use Rattle.job.proofs.bytes.number_at_2.Tie as tie
+use Rattle.bytes.proofs.checked.number_at_2.Statement.{statement}
+use Rattle.bytes.proofs.checked.number_at_2.Tie as tie
 
 shared-slice-read-low : tie.Need-shared-slice-read-low
 shared-slice-read-low c = search needs

@@ -1,10 +1,10 @@
--- `job::bytes::put_2` meets its contract: the two bytes are stored side by side. Assumes nothing.
+-- `bytes::checked::put_2` meets its contract: the two bytes are stored side by side. Assumes nothing.
 use native.Mathlib.Omega.{arith}
 use lib.ListN.{length-set}
-use Rattle.job.proofs.ByteLaws.{put-two}
+use Rattle.bytes.proofs.ByteLaws.{put-two}
 use borrow.Author.Needs.{needs}
-use Rattle.job.proofs.bytes.put_2.Statement.{statement}
-use Rattle.job.proofs.bytes.put_2.Tie as tie
+use Rattle.bytes.proofs.checked.put_2.Statement.{statement}
+use Rattle.bytes.proofs.checked.put_2.Tie as tie
 
 cast-out : tie.Need-cast-out
 cast-out c = search needs

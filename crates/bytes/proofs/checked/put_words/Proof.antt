@@ -1,14 +1,14 @@
--- `job::bytes::put_words` meets its contract: each turn stores one word, and the stores left make the rest of the bytes. Assumes nothing.
-use Rattle.job.proofs.ByteLaws.{words-put-start, words-put, words-put-end}
+-- `bytes::checked::put_words` meets its contract: each turn stores one word, and the stores left make the rest of the bytes. Assumes nothing.
+use Rattle.bytes.proofs.ByteLaws.{words-put-start, words-put, words-put-end}
 use Prim.Native.Nat.{_+_, _-_, _*_, _≤_}
 use mathlib.Core.Path.{_≡_, refl, sym, _∙_}
 use native.Mathlib.Omega.{arith}
 use lib.ListN.{length, drop}
 use lib.Seq.{sets}
 use Rattle.basics.specs.Lists.{each}
-use Rattle.job.specs.Bytes.{bytesOf}
-use Rattle.job.proofs.bytes.put_words.Statement.{statement}
-use Rattle.job.proofs.bytes.put_words.Tie as tie
+use Rattle.bytes.specs.Bytes.{bytesOf}
+use Rattle.bytes.proofs.checked.put_words.Statement.{statement}
+use Rattle.bytes.proofs.checked.put_words.Tie as tie
 
 abbrev Inv-loop : tie.InvT-loop
 Inv-loop out₀ at words i₀ out i = (i ≤ length words)

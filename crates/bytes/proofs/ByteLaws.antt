@@ -9,7 +9,7 @@ use lib.ListN.{length, getD, drop, set, drop-of-length-le}
 use lib.Seq.{drop-cons, sets}
 use Rattle.basics.specs.Lists.{each}
 use Rattle.basics.proofs.PutLaws.{sets-append, sets-all}
-use Rattle.job.specs.Bytes.{bytesOf, numberAt, wordsAt}
+use Rattle.bytes.specs.Bytes.{bytesOf, numberAt, wordsAt}
 
 -- ---- numbers read
 

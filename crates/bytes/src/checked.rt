@@ -1,10 +1,10 @@
-// Numbers out of bytes and into bytes, the lowest byte first.
+// Numbers out of bytes and into bytes that are known to be there.
 ghost use mathlib.Core.Path.{_≡_};
 ghost use Prim.Native.Nat.{_+_, _*_, _≤_};
 ghost use lib.ListN.{length};
 ghost use lib.Seq.{sets};
 ghost use Rattle.basics.specs.Lists.{each};
-ghost use Rattle.job.specs.Bytes.{bytesOf, numberAt, wordsAt};
+ghost use Rattle.bytes.specs.Bytes.{bytesOf, numberAt, wordsAt};
 
 // The number that 2 bytes make.
 pub fn number_at_2(bytes: &[u8], at: usize) -> u32

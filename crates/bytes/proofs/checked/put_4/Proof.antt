@@ -1,8 +1,8 @@
--- `job::bytes::put_4` meets its contract: two numbers of two bytes are stored side by side. Assumes nothing.
-use Rattle.job.proofs.ByteLaws.{put-four}
+-- `bytes::checked::put_4` meets its contract: two numbers of two bytes are stored side by side. Assumes nothing.
+use Rattle.bytes.proofs.ByteLaws.{put-four}
 use borrow.Author.Needs.{needs}
-use Rattle.job.proofs.bytes.put_4.Statement.{statement}
-use Rattle.job.proofs.bytes.put_4.Tie as tie
+use Rattle.bytes.proofs.checked.put_4.Statement.{statement}
+use Rattle.bytes.proofs.checked.put_4.Tie as tie
 
 put-2-requires : tie.Need-put-2-requires
 put-2-requires c κs = search needs

@@ -1,17 +1,15 @@
--- A number and its bytes say the same: numbers, words and header rows, both ways.
+-- A number and its bytes say the same: numbers and words, both ways.
 use Prim.Native.Nat.{ℕ, zero, suc, _+_, _*_, _/_, _%_, _^_, _<_, _≤_}
-use mathlib.Core.Path.{_≡_, refl, sym, ap, ap₂, _∙_, subst}
+use mathlib.Core.Path.{_≡_, refl, sym, ap, ap₂, _∙_}
 use mathlib.Core.List.{List, [], _∷_, _++_, append-assoc}
 use native.Mathlib.Nat.{pow-suc}
 use native.Mathlib.Omega.{arith}
-use lib.ListN.{length, getD, take, drop, length-append, take-append-drop}
+use lib.ListN.{length, getD, take, drop, take-append-drop}
 use lib.Seq.{drop-cons, drop-drop, getD-append-add}
 use Rattle.basics.specs.Lists.{each, All}
 use Rattle.basics.proofs.All.{all-at}
-use Rattle.job.specs.Bytes.{bytesOf, numberAt, wordsAt}
-use Rattle.job.specs.Image.{HeaderRow, rowBytes}
-use Rattle.job.specs.Image.HeaderRow.{byte_wide_holds_}
-use Rattle.job.proofs.ByteLaws.{length-bytes}
+use Rattle.bytes.specs.Bytes.{bytesOf, numberAt, wordsAt}
+use Rattle.bytes.proofs.ByteLaws.{length-bytes}
 
 -- ---- past other bytes
 
@@ -57,32 +55,6 @@ words-there pre words rest at e h =
     ∙ words-skip (length words) pre (each (bytesOf 4) words ++ rest) 0
     ∙ words-front words rest h
 
--- rows one after the other, each wide enough for what it holds
-abbrev pub Placed : ℕ → List HeaderRow → Type 0
-Placed at [] = Unit {0}
-Placed at (byte place wide width holds value ∷ fs) = (place ≡ at) × ((value < 256 ^ width) × Placed (at + width) fs)
-
--- a row stands in some bytes
-abbrev pub Stands : List ℕ → HeaderRow → Type 0
-Stands bytes (byte place wide width holds value) = numberAt width bytes place ≡ value
-
-pub rows-there : (fs : List HeaderRow) (pre rest : List ℕ) (at : ℕ) → length pre ≡ at → Placed at fs
-    → All (Stands (pre ++ (each rowBytes fs ++ rest))) fs
-unfolding each rowBytes
-rows-there [] pre rest at e p = tt
-rows-there (byte place wide width holds value ∷ fs) pre rest at e p =
-    let here : List ℕ = bytesOf width value in
-    let more : List ℕ = each rowBytes fs ++ rest in
-    let f : place ≡ length pre + 0 = omega arith in
-    let l : length (pre ++ here) ≡ at + width = omega (arith, length-append pre here, length-bytes width value) in
-    let whole : pre ++ ((here ++ each rowBytes fs) ++ rest) ≡ pre ++ (here ++ more) = ap (λ r. pre ++ r)
-    (append-assoc here (each rowBytes fs) rest) in
-    let number : numberAt width (pre ++ (here ++ more)) place ≡ value =
-    ap (numberAt width (pre ++ (here ++ more))) f ∙ number-skip width pre (here ++ more) 0 ∙ bytes-number width value more (p .1 .0) in (
-      ap (λ b. numberAt width b place) whole ∙ number,
-      subst (λ b. All (Stands b) fs) (append-assoc pre here more ∙ sym whole) (rows-there fs (pre ++ here) rest (at + width) l (p .1 .1)),
-    )
-
 -- ---- read, then written
 
 -- every entry is a byte
@@ -110,7 +82,7 @@ number-bytes (suc width) bytes at w h =
     (ap (λ l. getD bytes at 0 ∷ l) (number-bytes width bytes (suc at) w (omega arith)))
 
 -- the bytes of a number, and those after it
-number-on : (width : ℕ) (bytes : List ℕ) (at : ℕ) → Bytes bytes → at + width ≤ length bytes
+pub number-on : (width : ℕ) (bytes : List ℕ) (at : ℕ) → Bytes bytes → at + width ≤ length bytes
     → bytesOf width (numberAt width bytes at) ++ drop (at + width) bytes ≡ drop at bytes
 number-on width bytes at w h =
     ap₂ _++_ (number-bytes width bytes at w h) (sym (drop-drop width at bytes)) ∙ take-append-drop width (drop at bytes)
@@ -123,21 +95,3 @@ words-on (suc count) bytes at end w e h =
     append-assoc (bytesOf 4 (numberAt 4 bytes at)) (each (bytesOf 4) (wordsAt count bytes (at + 4))) (drop end bytes)
     ∙ ap (λ r. bytesOf 4 (numberAt 4 bytes at) ++ r) (words-on count bytes (at + 4) end w (omega arith) h)
     ∙ number-on 4 bytes at w (omega arith)
-
--- rows as they are read, up to an end
-abbrev pub Laid : List ℕ → ℕ → List HeaderRow → ℕ → Type 0
-Laid bytes at [] end = at ≡ end
-Laid bytes at (byte place wide width holds value ∷ fs) end = (numberAt width bytes at ≡ value) × Laid bytes (at + width) fs end
-
-laid-le : (bytes : List ℕ) (fs : List HeaderRow) (at end : ℕ) → Laid bytes at fs end → at ≤ end
-laid-le bytes [] at end l = omega arith
-laid-le bytes (byte place wide width holds value ∷ fs) at end l = omega (arith, laid-le bytes fs (at + width) end (l .1))
-
-pub rows-on : (bytes : List ℕ) (fs : List HeaderRow) (at end : ℕ) → Bytes bytes → Laid bytes at fs end → end ≤ length bytes
-    → each rowBytes fs ++ drop end bytes ≡ drop at bytes
-unfolding each rowBytes
-rows-on bytes [] at end w l h = ap (λ i. drop i bytes) (sym l)
-rows-on bytes (byte place wide width holds value ∷ fs) at end w l h =
-    append-assoc (bytesOf width value) (each rowBytes fs) (drop end bytes)
-    ∙ ap₂ (λ v r. bytesOf width v ++ r) (sym (l .0)) (rows-on bytes fs (at + width) end w (l .1) h)
-    ∙ number-on width bytes at w (omega (arith, laid-le bytes fs (at + width) end (l .1)))

@@ -1,13 +1,13 @@
--- `job::bytes::read_words` meets its contract: each turn stores one word, and the stores left make the rest of the words. Assumes nothing.
-use Rattle.job.proofs.ByteLaws.{words-read-start, words-read-end, words-read}
+-- `bytes::checked::read_words` meets its contract: each turn stores one word, and the stores left make the rest of the words. Assumes nothing.
+use Rattle.bytes.proofs.ByteLaws.{words-read-start, words-read-end, words-read}
 use Prim.Native.Nat.{_+_, _-_, _*_, _≤_}
 use mathlib.Core.Path.{_≡_, refl, sym, _∙_}
 use native.Mathlib.Omega.{arith}
 use lib.ListN.{length, length-set}
 use lib.Seq.{sets}
-use Rattle.job.specs.Bytes.{wordsAt}
-use Rattle.job.proofs.bytes.read_words.Statement.{statement}
-use Rattle.job.proofs.bytes.read_words.Tie as tie
+use Rattle.bytes.specs.Bytes.{wordsAt}
+use Rattle.bytes.proofs.checked.read_words.Statement.{statement}
+use Rattle.bytes.proofs.checked.read_words.Tie as tie
 
 abbrev Inv-loop : tie.InvT-loop
 Inv-loop bytes at out₀ i₀ out i = (i ≤ length out₀)

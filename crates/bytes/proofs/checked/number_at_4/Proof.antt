@@ -1,11 +1,11 @@
--- `job::bytes::number_at_4` meets its contract: two numbers of two bytes, the second 65,536 times. Assumes nothing.
+-- `bytes::checked::number_at_4` meets its contract: two numbers of two bytes, the second 65,536 times. Assumes nothing.
 use Prim.Native.Nat.{ℕ, _+_, _<_}
 use native.Mathlib.Omega.{arith}
 use lib.ListN.{getD}
-use Rattle.job.proofs.ByteLaws.{number-fits, number-four}
+use Rattle.bytes.proofs.ByteLaws.{number-fits, number-four}
 use borrow.Author.Needs.{needs}
-use Rattle.job.proofs.bytes.number_at_4.Statement.{statement}
-use Rattle.job.proofs.bytes.number_at_4.Tie as tie
+use Rattle.bytes.proofs.checked.number_at_4.Statement.{statement}
+use Rattle.bytes.proofs.checked.number_at_4.Tie as tie
 
 number-at-2-requires : tie.Need-number-at-2-requires
 number-at-2-requires c κs = search needs

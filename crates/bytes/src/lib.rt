@@ -1,0 +1,2 @@
+// Numbers as bytes, the lowest byte first.
+pub mod checked;
