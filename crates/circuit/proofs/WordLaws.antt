@@ -26,7 +26,7 @@ Word w = w < 2 ^ 32
 state-fits : (n x : ℕ) → n ≤ mostLines → x < 2 ^ n → Word x
 state-fits n x h k = le-trans k (pow-mono h)
 
-good-spare : (n : ℕ) (g : Gate) → badGate n g ≡ false → g .spare ≡ 0
+pub good-spare : (n : ℕ) (g : Gate) → badGate n g ≡ false → g .spare ≡ 0
 unfolding badGate
 good-spare n g e =
     let w = or-neither (not (eqb (g .spare) 0)) _ (or-neither (leb (2 ^ n) (g .controls)) _ e .1) in

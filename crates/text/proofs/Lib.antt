@@ -1,2 +1,4 @@
+pub mod EveryLaws
+pub mod SameLaws
 pub mod TextLaws
 pub mod DecimalLaws

@@ -8,7 +8,7 @@ use native.Mathlib.Nat.{pow-suc}
 use lib.ListN.{length, drop, set, getD, length-append, drop-of-length-le}
 use lib.Seq.{drop-cons, sets}
 use lib.Dec.{ltb}
-use borrow.Author.Tests.{lt-ltb, le-ltb}
+use borrow.Author.Tests.{lt-ltb, le-ltb, ltb-true, ltb-false}
 use Rattle.basics.specs.Choice.{choice}
 use Rattle.basics.proofs.Tests.{by-test}
 use Rattle.basics.proofs.PutLaws.{sets-append}
@@ -16,36 +16,48 @@ use Rattle.text.specs.Decimal.{digit, decimalIn, decimal}
 
 -- ---- numbers
 
--- a place more than a number needs changes nothing
-pub enough : (places x : ℕ) → 1 ≤ places → x < 10 ^ places → decimalIn (suc places) x ≡ decimalIn places x
+-- places beyond the number change nothing
+enough : (m k x : ℕ) → x < m → x < k → decimalIn m x ≡ decimalIn k x
 unfolding decimalIn
-enough zero x p h = absurd (omega arith)
-enough (suc zero) x p h = rw (lt-ltb x 10 (omega (arith, pow-suc 10 0)))
-enough (suc (suc places)) x p h =
-    ap (λ more. choice (ltb x 10) (digit x ∷ []) (more ++ (digit (x % 10) ∷ [])))
-    (enough (suc places) (x / 10) (omega arith) (omega (arith, pow-suc 10 (suc places))))
+enough zero k x h g = absurd (omega arith)
+enough (suc m) zero x h g = absurd (omega arith)
+enough (suc m) (suc k) x h g = by-test (ltb x 10)
+    (λ e. rw e)
+    (λ e.
+    let t = ltb-false x 10 e in
+    ap (λ more. choice (ltb x 10) (digit x ∷ []) (more ++ (digit (x % 10) ∷ []))) (enough m k (x / 10) (omega arith) (omega arith)))
 
-decimal-small : (x : ℕ) → x < 10 → decimal x ≡ digit x ∷ []
+pub decimal-small : (x : ℕ) → x < 10 → decimal x ≡ digit x ∷ []
 unfolding decimal decimalIn
 decimal-small x h = rw (lt-ltb x 10 h)
 
-first-place : (places x : ℕ) → 10 ≤ x → decimalIn (suc places) x ≡ decimalIn places (x / 10) ++ (digit (x % 10) ∷ [])
-unfolding decimalIn
-first-place places x h = rw (le-ltb x 10 h)
+pub decimal-more : (x : ℕ) → 10 ≤ x → decimal x ≡ decimal (x / 10) ++ (digit (x % 10) ∷ [])
+unfolding decimal decimalIn
+decimal-more x h = rw (le-ltb x 10 h) (ap (λ more. more ++ (digit (x % 10) ∷ [])) (enough x (suc (x / 10)) (x / 10) (omega arith) (omega arith)))
 
-pub decimal-more : (x : ℕ) → 10 ≤ x → x < 2 ^ 32 → decimal x ≡ decimal (x / 10) ++ (digit (x % 10) ∷ [])
-unfolding decimal
-decimal-more x h k =
-    first-place 9 x h ∙ ap (λ more. more ++ (digit (x % 10) ∷ [])) (sym (enough 9 (x / 10) (omega arith) (omega arith)))
+-- what holds of every digit, and of a number if it holds of the number without its last digit, holds of all numbers
+pub by-digits {κ} : (P : ℕ → Type κ) → ((x : ℕ) → x < 10 → P x) → ((x : ℕ) → 10 ≤ x → P (x / 10) → P x) → (x : ℕ) → P x
+by-digits P small more x = below (suc x) x (omega arith)
+  where
+    below : (bound x : ℕ) → x < bound → P x
+    below zero x h = absurd (omega arith)
+    below (suc bound) x h = by-test (ltb x 10)
+        (λ e. small x (ltb-true x 10 e))
+        (λ e. let t = ltb-false x 10 e in more x t (below bound (x / 10) (omega arith)))
 
--- a number has at most so many digits
-pub digits-most : (places x : ℕ) → length (decimalIn places x) ≤ places
-unfolding decimalIn
-digits-most zero x = omega arith
-digits-most (suc places) x =
-    by-test (ltb x 10)
-    (λ e. rw e (omega arith))
-    (λ e. rw (e, length-append (decimalIn places (x / 10)) (digit (x % 10) ∷ [])) (omega (arith, digits-most places (x / 10))))
+-- a number below a power of ten has at most so many digits
+pub digits-most : (places x : ℕ) → 1 ≤ places → x < 10 ^ places → length (decimal x) ≤ places
+digits-most zero x p h = absurd (omega arith)
+digits-most (suc places) x p h = by-test (ltb x 10)
+    (λ e. rw (decimal-small x (ltb-true x 10 e)) (omega arith))
+    (λ e.
+    let t = ltb-false x 10 e in
+    rw (decimal-more x t, length-append (decimal (x / 10)) (digit (x % 10) ∷ []))
+    (omega (arith, digits-most places (x / 10) (some places (omega arith) h) (omega (arith, pow-suc 10 places)))))
+  where
+    some : (places : ℕ) → 10 ≤ x → x < 10 ^ suc places → 1 ≤ places
+    some zero t h = absurd (omega (arith, pow-suc 10 0))
+    some (suc places) t h = omega arith
 
 -- ---- what is put, byte by byte
 
@@ -61,16 +73,16 @@ pub put-small : (out : List ℕ) (at x : ℕ) → x < 10 → (at + 1 ≡ at + le
 unfolding digit
 put-small out at x h = rw (decimal-small x h) (refl, refl)
 
-pub put-last : (out : List ℕ) (at last x : ℕ) → 10 ≤ x → x < 2 ^ 32 → last ≡ at + length (decimal (x / 10))
+pub put-last : (out : List ℕ) (at last x : ℕ) → 10 ≤ x → last ≡ at + length (decimal (x / 10))
     → (last + 1 ≡ at + length (decimal x)) × (set (sets out at (decimal (x / 10))) last (48 + x % 10) ≡ sets out at (decimal x))
 unfolding digit
-put-last out at last x h k e =
-    rw (decimal-more x h k, length-append (decimal (x / 10)) ((48 + x % 10) ∷ []))
+put-last out at last x h e =
+    rw (decimal-more x h, length-append (decimal (x / 10)) ((48 + x % 10) ∷ []))
     (omega arith, sets-append out at last (decimal (x / 10)) ((48 + x % 10) ∷ []) (sym e))
 
 -- the digits before the last leave room for it
-pub room-more : (x : ℕ) → 10 ≤ x → x < 2 ^ 32 → length (decimal x) ≡ length (decimal (x / 10)) + 1
-room-more x h k = rw (decimal-more x h k, length-append (decimal (x / 10)) (digit (x % 10) ∷ []))
+pub room-more : (x : ℕ) → 10 ≤ x → length (decimal x) ≡ length (decimal (x / 10)) + 1
+room-more x h = rw (decimal-more x h, length-append (decimal (x / 10)) (digit (x % 10) ∷ []))
 
 -- ---- bytes as they are, one a turn
 

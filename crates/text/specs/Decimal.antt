@@ -1,8 +1,11 @@
 -- Numbers in decimal, as bytes.
 use Prim.Native.Nat.{ℕ, zero, suc, _+_, _/_, _%_}
+use mathlib.Core.Bool.{Bool, not, _&&_, _||_}
 use mathlib.Core.List.{List, [], _∷_, _++_}
-use lib.Dec.{ltb}
+use lib.ListN.{length}
+use lib.Dec.{eqb, ltb, leb}
 use Rattle.basics.specs.Choice.{choice}
+use Rattle.text.specs.Texts.{begins, every}
 
 -- the byte of a digit: 0 is byte 48
 unfoldable pub digit : ℕ → ℕ
@@ -13,6 +16,13 @@ unfoldable pub decimalIn : ℕ → ℕ → List ℕ
 decimalIn zero x = []
 decimalIn (suc places) x = choice (ltb x 10) (digit x ∷ []) (decimalIn places (x / 10) ++ (digit (x % 10) ∷ []))
 
--- ten places hold every word
+-- a number has no more digits than one more than itself
 unfoldable pub decimal : ℕ → List ℕ
-decimal x = decimalIn 10 x
+decimal x = decimalIn (suc x) x
+
+unfoldable pub isDigit : ℕ → Bool
+isDigit b = leb 48 b && leb b 57
+
+-- digits with no zero in front, but for 0 itself
+unfoldable pub isNumber : List ℕ → Bool
+isNumber t = every isDigit t && (not (begins (eqb 48) t) || eqb (length t) 1)

@@ -51,7 +51,7 @@ returns t c = put-small _ _ _ (omega arith)
 put-decimal-requires : (t : ℕ) → put-decimal-lts.Need-put-decimal-requires (below t, put-decimal.Post) (at t) put-decimal.Post
 put-decimal-requires t c κs =
     let a = entry t c in
-    let w = room-more (a .args .x) (omega arith) (omega arith) in
+    let w = room-more (a .args .x) (omega arith) in
     (omega arith, omega arith)
 
 cast-out-2 : (t : ℕ) → put-decimal-lts.Need-cast-out-2 (below t, put-decimal.Post) (at t) put-decimal.Post
@@ -63,13 +63,13 @@ add-out-2 t c = omega arith
 slice-write-out-2 : (t : ℕ) → put-decimal-lts.Need-slice-write-out-2 (below t, put-decimal.Post) (at t) put-decimal.Post
 slice-write-out-2 t c =
     let a = entry t (c .before .before .before) in
-    let w = room-more (a .args .x) (omega arith) (omega arith) in
+    let w = room-more (a .args .x) (omega arith) in
     omega arith
 
 add-result-2 : (t : ℕ) → put-decimal-lts.Need-add-result-2 (below t, put-decimal.Post) (at t) put-decimal.Post
 add-result-2 t c =
     let a = entry t (c .before .before .before) in
-    let w = room-more (a .args .x) (omega arith) (omega arith) in
+    let w = room-more (a .args .x) (omega arith) in
     omega arith
 
 same-length-2 : (t : ℕ) → put-decimal-lts.Need-same-length-2 (below t, put-decimal.Post) (at t) put-decimal.Post
@@ -79,7 +79,7 @@ same-length-2 t c =
 returns-2 : (t : ℕ) → put-decimal-lts.Need-returns-2 (below t, put-decimal.Post) (at t) put-decimal.Post
 returns-2 t c =
     let put = c .before .before .put-decimal .ensures in
-    rw (put .1) (put-last _ _ _ _ (omega arith) (omega arith) (put .0))
+    rw (put .1) (put-last _ _ _ _ (omega arith) (put .0))
 
 pub +put-decimal-spec : {M : Type 1} → statement M
 +put-decimal-spec = close μ-put-decimal λ t. put-decimal-lts.spec (below t, put-decimal.Post)

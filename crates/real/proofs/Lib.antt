@@ -1,0 +1,5 @@
+pub mod JoinLaws
+pub mod NameLaws
+pub mod MaskLaws
+pub mod RoundTrip
+pub mod FirstFaulty

@@ -1,0 +1,1 @@
+// Circuits written as texts of the .real form.

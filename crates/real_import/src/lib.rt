@@ -1,0 +1,1 @@
+// Circuits read out of texts of the .real form.

@@ -1,0 +1,65 @@
+-- Laws of texts compared.
+use Prim.Native.Nat.{ℕ, zero, suc, _+_, _-_, _<_, _≤_}
+use mathlib.Core.Path.{_≡_, refl, sym, ap, ap₂, _∙_}
+use mathlib.Core.Bool.{Bool, true, false, not, _&&_, _||_, false≢true}
+use mathlib.Core.List.{List, [], _∷_, _++_}
+use native.Mathlib.Omega.{arith}
+use native.Mathlib.Numerals.{add-one}
+use lib.ListN.{length, take, drop, getD, drop-of-length-le}
+use lib.Seq.{drop-cons}
+use lib.Dec.{eqb, ltb}
+use borrow.Author.Tests.{eq-eqb, ne-eqb, eqb-true}
+use Rattle.basics.specs.Lists.{some}
+use Rattle.basics.proofs.Tests.{and-both, and-true, choice-true, choice-false}
+use Rattle.text.specs.Texts.{same, among, distinct, place}
+
+pub same-refl : (t : List ℕ) → same t t ≡ true
+unfolding same
+same-refl [] = refl
+same-refl (b ∷ t) = and-true (eq-eqb b b refl) (same-refl t)
+
+pub same-true : (t u : List ℕ) → same t u ≡ true → t ≡ u
+unfolding same
+same-true [] [] e = refl
+same-true [] (c ∷ u) e = absurd (false≢true e)
+same-true (b ∷ t) [] e = absurd (false≢true e)
+same-true (b ∷ t) (c ∷ u) e = let w = and-both (eqb b c) (same t u) e in ap₂ (λ x l. x ∷ l) (eqb-true b c (w .0)) (same-true t u (w .1))
+
+-- texts of two lengths
+pub same-lengths : (t u : List ℕ) → (length t ≡ length u → ⊥) → same t u ≡ false
+unfolding same
+same-lengths [] [] d = absurd (d refl)
+same-lengths [] (c ∷ u) d = refl
+same-lengths (b ∷ t) [] d = refl
+same-lengths (b ∷ t) (c ∷ u) d = and-last (eqb b c) (same-lengths t u (λ e. d (ap suc e)))
+  where
+    and-last : (x : Bool) {y : Bool} → y ≡ false → (x && y) ≡ false
+    and-last true e = e
+    and-last false e = refl
+
+-- from a place on: the same byte, another, none
+module _ (a b : List ℕ) (i : ℕ) where
+  pub same-more : i < length a → i < length b → getD a i 0 ≡ getD b i 0 → same (drop i a) (drop i b) ≡ same (drop (i + 1) a) (drop (i + 1) b)
+  unfolding same
+  same-more h k e = rw (drop-cons a i 0 h, drop-cons b i 0 k, eq-eqb (getD a i 0) (getD b i 0) e, add-one i)
+
+  pub same-other : i < length a → i < length b → (getD a i 0 ≡ getD b i 0 → ⊥) → same (drop i a) (drop i b) ≡ false
+  unfolding same
+  same-other h k d = rw (drop-cons a i 0 h, drop-cons b i 0 k, ne-eqb (getD a i 0) (getD b i 0) d)
+
+  pub same-end : length a ≤ i → length b ≤ i → same (drop i a) (drop i b) ≡ true
+  unfolding same
+  same-end h k = rw (drop-of-length-le a {i = i} h, drop-of-length-le b {i = i} k)
+
+-- the place among some texts
+pub place-found : (u : List ℕ) (us : List (List ℕ)) (t : List ℕ) → same u t ≡ true → place (u ∷ us) t ≡ 0
+unfolding place
+place-found u us t e = choice-true e _ _
+
+pub place-passed : (u : List ℕ) (us : List (List ℕ)) (t : List ℕ) → same u t ≡ false → place (u ∷ us) t ≡ suc (place us t)
+unfolding place
+place-passed u us t e = choice-false e _ _
+
+pub place-none : (t : List ℕ) → place [] t ≡ 0
+unfolding place
+place-none t = refl

@@ -1,0 +1,5 @@
+pub mod WordLaws
+pub mod LineLaws
+pub mod RunLaws
+pub mod DigitLaws
+pub mod PlaceLaws
