@@ -16,7 +16,7 @@ use Rattle.text.proofs.SameLaws.{same-refl, same-true, place-found, place-passe
 use Rattle.text_words.proofs.PlaceLaws.{distinct-true}
 use Rattle.text.proofs.TextLaws.{digits-most}
 use Rattle.text.proofs.DecimalLaws.{all-digits, decimal-one}
-use Rattle.real.specs.Form.{Word, isLetter, isName}
+use Rattle.real.specs.Form.{Word, isLetter, isNameByte, isName}
 use Rattle.real.specs.Export.{nameOf}
 use Rattle.real.proofs.JoinLaws.{visible, Visible, every-imp}
 
@@ -38,7 +38,7 @@ pub is-name : (j : ℕ) → j < 100 → isName (nameOf j) ≡ true
 unfolding nameOf ascii every isName isLetter
 is-name j h =
     and-true
-    (every-imp isDigit (λ b. isLetter b || (isDigit b || eqb b 95)) (λ b e. or-right (isLetter b) (or-left (eqb b 95) e)) (decimal j) (all-digits j))
+    (every-imp isDigit isNameByte (λ b e. or-right (isLetter b) (or-left (eqb b 95) e)) (decimal j) (all-digits j))
     (let w = digits-most 2 j (omega arith) (omega arith) in le-leb (suc (length (decimal j))) 8 (omega arith))
 
 -- two lines have two names

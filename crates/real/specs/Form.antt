@@ -41,9 +41,13 @@ when test stage = choice test (goes stage) (stops 14)
 unfoldable pub isLetter : ℕ → Bool
 isLetter b = (leb 65 b && leb b 90) || (leb 97 b && leb b 122)
 
--- letters, digits and underscores, at most 8
+-- a letter, a digit or an underscore (95)
+abbrev pub isNameByte : ℕ → Bool
+isNameByte b = isLetter b || (isDigit b || eqb b 95)
+
+-- at most 8 such bytes
 unfoldable pub isName : Word → Bool
-isName word = every (λ b. isLetter b || (isDigit b || eqb b 95)) word && leb (length word) 8
+isName word = every isNameByte word && leb (length word) 8
 
 unfoldable pub optionalParts : List Word
 optionalParts = ascii ".inputs" ∷ ascii ".outputs" ∷ ascii ".garbage" ∷ ascii ".constants" ∷ []

@@ -16,6 +16,18 @@ module _ {ℓ} {A : Type ℓ} (p : A → Bool) where
   every-append [] ys a b = b
   every-append (x ∷ xs) ys a b = let w = and-both (p x) (every p xs) a in and-true (w .0) (every-append xs ys (w .1) b)
 
+  pub every-nil : every p [] ≡ true
+  unfolding every
+  every-nil = refl
+
+  pub every-passed : (x : A) (xs : List A) → p x ≡ true → every p (x ∷ xs) ≡ every p xs
+  unfolding every
+  every-passed x xs e = rw e
+
+  pub every-failed : (x : A) (xs : List A) → p x ≡ false → every p (x ∷ xs) ≡ false
+  unfolding every
+  every-failed x xs e = rw e
+
 -- one byte more of a part
 pub part-more : (text : List ℕ) (at i : ℕ) → at ≤ i → i < length text
     → take (i + 1 - at) (drop at text) ≡ take (i - at) (drop at text) ++ (getD text i 0 ∷ [])

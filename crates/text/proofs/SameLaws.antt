@@ -10,7 +10,7 @@ use lib.Seq.{drop-cons}
 use lib.Dec.{eqb, ltb}
 use borrow.Author.Tests.{eq-eqb, ne-eqb, eqb-true}
 use Rattle.basics.specs.Lists.{some}
-use Rattle.basics.proofs.Tests.{and-both, and-true, choice-true, choice-false}
+use Rattle.basics.proofs.Tests.{by-test, and-both, and-true, or-left, or-right, or-false, choice-true, choice-false}
 use Rattle.text.specs.Texts.{same, among, distinct, place}
 
 pub same-refl : (t : List ℕ) → same t t ≡ true
@@ -63,3 +63,25 @@ place-passed u us t e = choice-false e _ _
 pub place-none : (t : List ℕ) → place [] t ≡ 0
 unfolding place
 place-none t = refl
+
+-- ---- a text is one of some texts where its place is one of theirs
+
+same-sym : (t u : List ℕ) → same t u ≡ true → same u t ≡ true
+same-sym t u e = ap (λ x. same x t) (sym (same-true t u e)) ∙ same-refl t
+
+same-other-way : (t u : List ℕ) → same t u ≡ false → same u t ≡ false
+same-other-way t u e = by-test (same u t) (λ g. absurd (false≢true (sym e ∙ same-sym u t g))) (λ g. g)
+
+pub among-placed : (us : List (List ℕ)) (t : List ℕ) → (place us t ≡ length us → ⊥) → among t us ≡ true
+unfolding among some
+among-placed [] t d = absurd (d (place-none t))
+among-placed (u ∷ us) t d = by-test (same u t)
+    (λ e. or-left (some (same t) us) (same-sym u t e))
+    (λ e. or-right (same t u) (among-placed us t (λ z. d (place-passed u us t e ∙ ap suc z))))
+
+pub among-nowhere : (us : List (List ℕ)) (t : List ℕ) → place us t ≡ length us → among t us ≡ false
+unfolding among some
+among-nowhere [] t e = refl
+among-nowhere (u ∷ us) t e = by-test (same u t)
+    (λ g. let w = place-found u us t g in absurd (omega arith))
+    (λ g. let w = place-passed u us t g in or-false (same-other-way u t g) (among-nowhere us t (omega arith)))
