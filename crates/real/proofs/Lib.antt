@@ -3,3 +3,4 @@ pub mod NameLaws
 pub mod MaskLaws
 pub mod RoundTrip
 pub mod FirstFaulty
+pub mod NumberLaws

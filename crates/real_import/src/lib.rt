@@ -1,15 +1,12 @@
 // Circuits read out of texts of the .real form.
 ghost use mathlib.Core.Path.{_≡_};
-ghost use mathlib.Core.List.{List};
-ghost use Prim.Native.Nat.{ℕ, _*_, _≤_};
+ghost use Prim.Native.Nat.{_*_, _≤_};
 ghost use lib.ListN.{length};
 ghost use Rattle.circuit.specs.Limits.{mostGates};
 ghost use Rattle.real.specs.Reading.{reading};
-ghost use Rattle.real.specs.Reading.Reading.{circuit};
 ghost use Rattle.real_import.specs.Answers.{toldImported};
 ghost use Rattle.real_import.specs.Promises.{importTells, importLeaves};
-ghost use Rattle.real_import.specs.Results.{Answers};
-ghost use Rattle.real_import.specs.Lines.{Held};
+ghost use Rattle.real_import.specs.Results.{Answers, HeldAnswers, SomeHeld};
 use crate::lines::Form;
 use refusals;
 use refusals::Checked;
@@ -26,8 +23,8 @@ pub enum Imported {
 
 // A circuit whose gates are held, into the front of a list.
 fn answer(lines: usize, count: usize, own: &[u32], gates: &mut [u32]) -> Imported
-    requires { ⌜ (3 * mostGates ≤ length (now own)) × ((words : List ℕ) × Held lines (now own) count words) ⌝ }
-    ensures { λ r. ⌜ (words : List ℕ) → Held lines (now (own .entry)) count words → Answers (circuit lines words) (now (gates .entry)) r (now (gates .exit)) ⌝ }
+    requires { ⌜ (3 * mostGates ≤ length (now own)) × SomeHeld lines (now own) count ⌝ }
+    ensures { λ r. ⌜ HeldAnswers lines count (now (own .entry)) (now (gates .entry)) r (now (gates .exit)) ⌝ }
 {
     match storing::check_read(lines, count, own, gates.len()) {
         Checked::Wrong(refusal) => Imported::Refused(refusal),

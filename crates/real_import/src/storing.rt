@@ -1,16 +1,11 @@
 // Gates that were read: held in words of the call's own, checked, and stored in the room.
 ghost use mathlib.Core.Path.{_≡_};
-ghost use mathlib.Core.List.{List, [], _∷_, _++_};
-ghost use Prim.Native.Nat.{ℕ, _*_, _≤_};
+ghost use Prim.Native.Nat.{_*_, _≤_};
 ghost use lib.ListN.{length};
-ghost use lib.Dec.{ltb};
 ghost use Rattle.basics.specs.Lists.{onto};
-ghost use Rattle.refusals.specs.Tables.{firstOf};
-ghost use Rattle.refusals.specs.Tables.Row.{refuse_at_when_};
-ghost use Rattle.refusals.specs.Checks.{fine, found};
 ghost use Rattle.circuit.specs.Limits.{mostGates};
-ghost use Rattle.circuit.specs.Rules.{circuitRows};
-ghost use Rattle.real_import.specs.Lines.{Held, heldAfter};
+ghost use Rattle.real_import.specs.Lines.{heldAfter};
+ghost use Rattle.real_import.specs.Results.{ReadChecked};
 use circuit;
 use refusals;
 use refusals::Checked;
@@ -31,8 +26,7 @@ pub fn hold(own: &mut [u32], gates: usize, controls: u32, target: u32)
 // The rules of a circuit whose gates are held, and of the room for them.
 pub fn check_read(lines: usize, gates: usize, own: &[u32], room: usize) -> Checked
     requires { ⌜ 3 * mostGates ≤ length (now own) ⌝ }
-    ensures { λ r. ⌜ (words : List ℕ) → Held lines (now (own .entry)) gates words
-        → found r ≡ firstOf (circuitRows lines words ++ (refuse 10 at 0 when ltb room (length words) ∷ [])) fine ⌝ }
+    ensures { λ r. ⌜ ReadChecked lines gates (now (own .entry)) room r ⌝ }
 {
     let n = refusals::in_word(lines);
     if circuit::rules::bad_lines(n) {
