@@ -4,3 +4,4 @@ pub mod MaskLaws
 pub mod RoundTrip
 pub mod FirstFaulty
 pub mod NumberLaws
+pub mod StepLaws

@@ -1,2 +1,3 @@
 pub mod HoldLaws
 pub mod ResultLaws
+pub mod LineLaws
