@@ -1,5 +1,6 @@
 pub mod JoinLaws
 pub mod NameLaws
 pub mod MaskLaws
+pub mod ReadLaws
 pub mod RoundTrip
 pub mod FirstFaulty
