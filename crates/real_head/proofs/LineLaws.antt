@@ -1,0 +1,80 @@
+-- Laws of a line by its words, and of the lines up to .begin.
+use Prim.Native.Nat.{ℕ, suc, _+_, _-_, _<_, _≤_}
+use mathlib.Core.Path.{_≡_, refl, sym, ap, _∙_}
+use mathlib.Core.Bool.{Bool, true, false, _&&_}
+use mathlib.Core.List.{List, [], _∷_}
+use native.Mathlib.Omega.{arith}
+use native.Mathlib.Numerals.{add-one}
+use lib.ListN.{length, take, drop, getD, drop-of-length-le}
+use lib.Seq.{getD-take, getD-drop}
+use lib.Dec.{eqb}
+use Rattle.basics.specs.Choice.{choice}
+use Rattle.text.specs.Texts.{every, begins}
+use Rattle.text.proofs.EveryLaws.{begins-first}
+use Rattle.text_words.specs.Words.{linesOf, wordsOf}
+use Rattle.text_words.specs.Runs.{part, LineAt}
+use Rattle.real.specs.Form.{Word, Stage, Step, next, gateDue, isOther, isPlain, stepWith, stepOf}
+use Rattle.real.specs.Form.Stage.{begun}
+use Rattle.real.specs.Form.Step.{goes, stops}
+use Rattle.real.specs.Reading.{Reading, reading, readFrom}
+use Rattle.real.specs.Reading.Reading.{faulty}
+use Rattle.real.proofs.ReadLaws.{read-goes, read-stops}
+use Rattle.real_head.specs.declared.Due.{Due}
+use Rattle.real_head.specs.declared.Due.the-variants as due
+use Rattle.real_head.specs.declared.Turn.{Turn}
+use Rattle.real_head.specs.declared.Turn.the-variants as turn
+use Rattle.real_head.specs.Stages.{stageOf, Turned, StandsAt}
+use Rattle.real_head.proofs.TurnLaws.{part-length, part-part}
+
+-- ---- one line
+
+module _ (s : Stage) (line : List ℕ) where
+  pub blank-step : wordsOf line ≡ [] → stepOf s line ≡ goes s
+  unfolding stepOf stepWith
+  blank-step e = ap (stepWith s line) e
+
+  pub word-step : (word : Word) (more : List Word) (a b : Bool) → wordsOf line ≡ word ∷ more → gateDue s ≡ false → begins (eqb 35) word ≡ a
+      → every isPlain line ≡ b → stepOf s line ≡ choice a (goes s) (choice b (next s word more) (stops 14))
+  unfolding stepOf stepWith
+  word-step word more a b e d f g = ap (stepWith s line) e ∙ rw (f, d, g)
+
+-- no gate is due before .begin
+pub head-due : (text : List ℕ) (d : Due) → gateDue (stageOf text d) ≡ false
+head-due text due.Version = refl
+head-due text due.Numvars = refl
+head-due text (due.Variables from to) = refl
+head-due text (due.Part from to i o g k) = refl
+
+-- the first byte of a word in its line
+pub begins-part : (p : ℕ → Bool) (line : List ℕ) (from to : ℕ) → from < to → to ≤ length line → begins p (part line from to) ≡ p (getD line from 0)
+begins-part p line from to h k =
+    let l = part-length line from to (omega arith) k in
+    let e : from + 0 ≡ from = omega arith in
+    begins-first p (part line from to) (omega arith)
+    ∙ ap p (getD-take (to - from) (drop from line) 0 0 (omega arith) ∙ getD-drop from line 0 0 ∙ rw e)
+
+-- ---- line by line
+
+module _ (text : List ℕ) (at line to end : ℕ) (d : Due) (l : LineAt text at to end)
+    (so-far : reading text ≡ readFrom line (stageOf text d) (linesOf (drop at text))) where
+  this-line : reading text ≡ readFrom line (stageOf text d) (part text at to ∷ linesOf (drop end text))
+  this-line = so-far ∙ ap (readFrom line (stageOf text d)) (l .split)
+
+  pub head-goes : (s : Stage) → goes s ≡ stepOf (stageOf text d) (part text at to) → reading text ≡ readFrom (line + 1) s (linesOf (drop end text))
+  head-goes s e = rw (add-one line) (this-line ∙ read-goes line (stageOf text d) (part text at to) (linesOf (drop end text)) s (sym e))
+
+  pub head-stops : (k : ℕ) → stops k ≡ stepOf (stageOf text d) (part text at to) → reading text ≡ faulty k line
+  head-stops k e = this-line ∙ read-stops line (stageOf text d) (part text at to) (linesOf (drop end text)) k (sym e)
+
+-- after the last line .begin is missing
+due-end : (text : List ℕ) (line : ℕ) (d : Due) → readFrom line (stageOf text d) [] ≡ faulty 14 line
+unfolding readFrom
+due-end text line due.Version = refl
+due-end text line due.Numvars = refl
+due-end text line (due.Variables from to) = refl
+due-end text line (due.Part from to i o g k) = refl
+
+pub head-ends : (text : List ℕ) (at line : ℕ) (d : Due) → reading text ≡ readFrom line (stageOf text d) (linesOf (drop at text)) → length text ≤ at
+    → reading text ≡ faulty 14 line
+unfolding linesOf
+head-ends text at line d e h = e ∙ ap (λ t. readFrom line (stageOf text d) (linesOf t)) (drop-of-length-le text {i = at} h) ∙ due-end text line d
