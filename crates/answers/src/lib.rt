@@ -17,6 +17,7 @@ use simulator::Caught;
 use testsets::Made;
 
 pub mod jobs;
+pub mod texts;
 pub mod verdicts;
 
 // A state.

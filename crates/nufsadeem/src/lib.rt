@@ -22,6 +22,7 @@ use faults::Fault;
 
 pub mod jobs;
 pub mod judging;
+pub mod texts;
 
 // From the input to a level.
 #[no_mangle]
