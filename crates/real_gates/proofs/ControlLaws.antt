@@ -19,9 +19,10 @@ use Rattle.text.proofs.SameLaws.{same-refl, same-true, place-found, place-passe
 use Rattle.text.proofs.EveryLaws.{every-append}
 use Rattle.text_words.specs.Words.{wordsOf}
 use Rattle.text_words.specs.Runs.{part, WordAt}
-use Rattle.text_words.proofs.PlaceLaws.{place-le, place-most, listed}
-use Rattle.real.specs.Form.{Word, maskOf, controlsOf, targetOf, gateOf}
-use Rattle.real_gates.specs.Gates.{areControls, areGate, Masked}
+use Rattle.text_words.proofs.PlaceLaws.{place-le, place-most, Listed, listed}
+use Rattle.real.specs.Form.{Word, maskOf}
+use Rattle.real_gates.specs.Keys.{Known}
+use Rattle.real_gates.specs.Gates.{areControls, Masked}
 use Rattle.real_gates.proofs.MaskLaws.{flip-adds, mask-more}
 
 -- ---- one text more at the end
@@ -53,7 +54,7 @@ distinct-last (v ∷ us) u d e =
     let none : among v us ≡ false = not-true (among v us) (w .0) in
     and-true (ap not (among-last v us u ∙ or-false none other)) (distinct-last us u (w .1) (n .1))
 
-every-last : {A : Type 0} (p : A → Bool) (xs : List A) (x : A) → every p (xs ++ (x ∷ [])) ≡ every p xs && p x
+pub every-last : {A : Type 0} (p : A → Bool) (xs : List A) (x : A) → every p (xs ++ (x ∷ [])) ≡ every p xs && p x
 unfolding every
 every-last p [] x = and-last (p x)
   where
@@ -68,10 +69,10 @@ every-last p (y ∷ xs) x = ap (λ b. p y && b) (every-last p xs x) ∙ and-asso
 
 -- ---- one entry that fails, one that stood before
 
-and-left : {a : Bool} (b : Bool) → a ≡ false → a && b ≡ false
+pub and-left : {a : Bool} (b : Bool) → a ≡ false → a && b ≡ false
 and-left b e = ap (λ a. a && b) e
 
-and-right : (a : Bool) {b : Bool} → b ≡ false → a && b ≡ false
+pub and-right : (a : Bool) {b : Bool} → b ≡ false → a && b ≡ false
 and-right true e = e
 and-right false e = refl
 
@@ -91,6 +92,9 @@ distinct-fails (u ∷ us) (suc i) h e = by-test (same (getD us i []) u)
     (λ s. and-right (not (among u us)) (distinct-fails us i (omega arith) (ap (λ b. b || among (getD us i []) (take i us)) (sym s) ∙ e)))
 
 -- ---- the controls so far
+
+abbrev pub declared : List Word → Word → Bool
+declared names w = among w names
 
 -- a text stands where its place is
 placed : (us : List Word) (t : Word) → place us t < length us → getD us (place us t) [] ≡ t
@@ -112,11 +116,11 @@ masks-none names = record { right = refl; is = refl; on = λ t h. rw (bit-of-zer
 masks-last : (names ws : List Word) (m : ℕ) (w : Word) → Masks names ws m → place names w < length names → bit m (place names w) ≡ 0
     → Masks names (ws ++ (w ∷ [])) (flip m (place names w))
 masks-last names ws m w k h e =
-    let r = and-both (every (λ v. among v names) ws) (distinct ws) (k .right) in
+    let r = and-both (every (declared names) ws) (distinct ws) (k .right) in
     let new : among w ws ≡ false = sym (k .on w h) ∙ ne-eqb (bit m (place names w)) 1 (λ z. omega arith) in
     record {
       right = and-true
-          (every-last (λ v. among v names) ws w ∙ and-true (r .0) (among-placed names w (λ z. omega arith)))
+          (every-last (declared names) ws w ∙ and-true (r .0) (among-placed names w (λ z. omega arith)))
           (distinct-last ws w (r .1) new);
       is = flip-adds m (place names w) e ∙ ap (λ x. x + 2 ^ place names w) (k .is) ∙ sym (mask-more names ws w);
       on = λ t l. by-equal (place names w) (place names t)
@@ -135,101 +139,67 @@ masks-last names ws m w k h e =
     or-none true = refl
     or-none false = refl
 
--- the next of a line's words: its place among the names, and the words after it
-pub record NextAt (names rest : List ℕ) (i to line : ℕ) : Type 0 where
-  pub is : line ≡ place (wordsOf names) (getD (wordsOf rest) i [])
-  pub most : line ≤ length (wordsOf names)
-  pub left : wordsOf (drop to rest) ≡ drop (i + 1) (wordsOf rest)
+-- some words of a line were read: where the others start, and the mask of these
+pub record Reading (names rest : List ℕ) (mask at i : ℕ) : Type 0 where
+  pub fits : at ≤ length rest
+  pub left : wordsOf (drop at rest) ≡ drop i (wordsOf rest)
+  pub masks : Masks (wordsOf names) (take i (wordsOf rest)) mask
 
-pub next-at : (names rest : List ℕ) (at from to i line : ℕ) → WordAt rest at from to → wordsOf (drop at rest) ≡ drop i (wordsOf rest)
-    → i < length (wordsOf rest) → line ≡ place (wordsOf names) (part rest from to) → NextAt names rest i to line
-next-at names rest at from to i line n e h p =
-    let w = listed rest at from to i n e h in
-    let m = place-most (wordsOf names) (part rest from to) in
-    record { is = p ∙ ap (place (wordsOf names)) (w .word); most = omega arith; left = w .rest }
+pub reading-none : (names rest : List ℕ) → Reading names rest 0 0 0
+reading-none names rest = record { fits = omega arith; left = refl; masks = masks-none (wordsOf names) }
 
--- the next word stands at a line: it is one control more, or ends the reading
-module _ (names words : List Word) (wanted i line : ℕ) (h : i < wanted) (fits : wanted ≤ length words) (is : line ≡ place names (getD words i [])) where
-  pub masks-more : (m m' : ℕ) → Masks names (take i words) m → line < length names → (bit m line ≡ 1 → ⊥) → m' ≡ flip m line
-      → Masks names (take (i + 1) words) m'
-  masks-more m m' k l d f =
-      let w : take (i + 1) words ≡ take i words ++ (getD words i [] ∷ []) = rw (add-one i) (take-suc words i [] (omega arith)) in
-      let b = bit-le m line in
-      let off : bit m line ≡ 0 = omega arith in
-      rw (w, f, is) (masks-last names (take i words) m (getD words i []) k (omega arith) (ap (bit m) (sym is) ∙ off))
+pub masked : {names rest : List ℕ} {mask at i wanted : ℕ} → Reading names rest mask at i → i ≡ wanted → Masked (wordsOf names) rest wanted mask at
+masked k e = rw (← e) (record { fits = k .fits; left = k .left; right = k .masks .right; is = k .masks .is })
 
-  here : getD (take wanted words) i [] ≡ getD words i []
-  here = getD-take wanted words i [] h
+-- the next word and its line
+module _ {names keys rest : List ℕ} {count at from to line : ℕ} (known : Known names keys count) (n : WordAt rest at from to)
+    (e : line ≡ place (wordsOf names) (part rest from to)) where
+  abbrev us : List Word
+  us = wordsOf names
 
-  before : take i (take wanted words) ≡ take i words
-  before = take-take i wanted words (omega arith)
+  abbrev ws : List Word
+  ws = wordsOf rest
 
-  below : i < length (take wanted words)
-  below = let e = length-take-le wanted words fits in omega arith
+  pub line-below : (line ≡ count → ⊥) → line < count
+  line-below d = let m = place-most us (part rest from to) in let c = known .counted in omega arith
 
-  pub not-declared : line ≡ length names → areControls names (take wanted words) ≡ false
-  not-declared e = and-left (distinct (take wanted words)) (every-fails (λ w. among w names) (take wanted words) i [] below
-      (ap (λ w. among w names) here ∙ among-nowhere names (getD words i []) (sym is ∙ e)))
+  -- it is one control more, or ends the reading
+  module _ {mask i wanted : ℕ} (k : Reading names rest mask at i) (h : i < wanted) (enough : wanted ≤ length (wordsOf rest)) where
+    next : Listed rest i from to
+    next = listed rest at from to i n (k .left) (omega arith)
 
-  pub twice-named : (m : ℕ) → Masks names (take i words) m → line < length names → bit m line ≡ 1 → areControls names (take wanted words) ≡ false
-  twice-named m k l e = and-right (every (λ w. among w names) (take wanted words)) (distinct-fails (take wanted words) i below
-      (rw (here, before) (sym (k .on (getD words i []) (omega arith))
-      ∙ eq-eqb (bit m (place names (getD words i []))) 1 (ap (bit m) (sym is) ∙ e))))
+    is : place us (getD ws i []) ≡ line
+    is = sym (e ∙ ap (place us) (next .word))
 
-pub masked : (names : List Word) (rest : List ℕ) (wanted i mask at : ℕ) → i ≡ wanted → at ≤ length rest → wordsOf (drop at rest) ≡ drop i (wordsOf rest)
-    → Masks names (take i (wordsOf rest)) mask → Masked names rest wanted mask at
-masked names rest wanted i mask at e h l k =
-    rw (← e) (record { fits = h; left = l; right = k .right; is = k .is })
+    here : getD (take wanted ws) i [] ≡ getD ws i []
+    here = getD-take wanted ws i [] h
 
--- ---- the words of a gate: k controls, and the target
+    earlier : take i (take wanted ws) ≡ take i ws
+    earlier = take-take i wanted ws (omega arith)
 
-module _ (names words : List Word) (k : ℕ) (last : k + 1 ≡ length words) where
-  controls : controlsOf words ≡ take k words
-  unfolding controlsOf
-  controls = let e : length words - 1 ≡ k = omega arith in ap (λ n. take n words) e
+    below : i < length (take wanted ws)
+    below = let f = length-take-le wanted ws enough in omega arith
 
-  target : targetOf words ≡ getD words k []
-  unfolding targetOf
-  target = let e : length words - 1 ≡ k = omega arith in ap (λ n. getD words n []) e
+    pub not-declared : line ≡ count → areControls us (take wanted ws) ≡ false
+    not-declared f = and-left (distinct (take wanted ws)) (every-fails (declared us) (take wanted ws) i [] below
+        (ap (declared us) here ∙ among-nowhere us (getD ws i []) (is ∙ f ∙ known .counted)))
 
-  whole : words ≡ take k words ++ (getD words k [] ∷ [])
-  whole = sym (take-length words) ∙ ap (λ n. take n words) (sym last ∙ add-one k) ∙ take-suc words k [] (omega arith)
+    module _ (other : line ≡ count → ⊥) where
+      stands : place us (getD ws i []) < length us
+      stands = let b = line-below other in let c = known .counted in let f = is in omega arith
 
-  gate-parts : areGate names words ≡ every (λ w. among w names) words && distinct (take k words)
-  gate-parts = ap (λ us. every (λ w. among w names) words && distinct us) controls
+      pub twice-named : bit mask line ≡ 1 → areControls us (take wanted ws) ≡ false
+      twice-named f = and-right (every (declared us) (take wanted ws)) (distinct-fails (take wanted ws) i below
+          (rw (here, earlier) (sym (k .masks .on (getD ws i []) stands)
+          ∙ eq-eqb (bit mask (place us (getD ws i []))) 1 (ap (bit mask) is ∙ f))))
 
-  apart : areGate names words ≡ areControls names (take k words) && among (getD words k []) names
-  apart =
-      gate-parts
-      ∙ ap (λ b. b && distinct (take k words)) (ap (every (λ w. among w names)) whole ∙ every-last (λ w. among w names) (take k words) (getD words k []))
-      ∙ and-turned (every (λ w. among w names) (take k words)) (among (getD words k []) names) (distinct (take k words))
-    where
-      and-turned : (a b c : Bool) → (a && b) && c ≡ (a && c) && b
-      and-turned true true true = refl
-      and-turned true true false = refl
-      and-turned true false true = refl
-      and-turned true false false = refl
-      and-turned false b c = refl
-
-  pub wrong-controls : areControls names (take k words) ≡ false → areGate names words ≡ false
-  wrong-controls e = apart ∙ and-left (among (getD words k []) names) e
-
-  pub wrong-target : place names (getD words k []) ≡ length names → areGate names words ≡ false
-  wrong-target e = apart ∙ and-right (areControls names (take k words)) (among-nowhere names (getD words k []) e)
-
-  pub right-gate : areControls names (take k words) ≡ true → place names (getD words k []) < length names → areGate names words ≡ true
-  right-gate e h = apart ∙ and-true e (among-placed names (getD words k []) (λ z. omega arith))
-
-  pub gate-is : (mask line : ℕ) → mask ≡ maskOf names (take k words) → line ≡ place names (getD words k []) → gateOf names words ≡ mask ∷ 0 ∷ line ∷ []
-  unfolding gateOf
-  gate-is mask line e f = rw (controls, target, e, f)
-
-  -- of any number of lines
-  pub some-undeclared : every (λ w. among w names) words ≡ false → areGate names words ≡ false
-  some-undeclared e = gate-parts ∙ and-left (distinct (take k words)) e
-
-  pub some-twice : distinct (take k words) ≡ false → areGate names words ≡ false
-  some-twice e = gate-parts ∙ and-right (every (λ w. among w names) words) e
-
-  pub right-wide : every (λ w. among w names) words ≡ true → distinct (take k words) ≡ true → areGate names words ≡ true
-  right-wide e f = gate-parts ∙ and-true e f
+      pub control-more : {more : ℕ} → (bit mask line ≡ 1 → ⊥) → more ≡ flip mask line → Reading names rest more to (i + 1)
+      control-more d f =
+          let w : take (i + 1) ws ≡ take i ws ++ (getD ws i [] ∷ []) = rw (add-one i) (take-suc ws i [] (omega arith)) in
+          let b = bit-le mask line in
+          let off : bit mask line ≡ 0 = omega arith in
+          record {
+            fits = n .fits;
+            left = next .rest;
+            masks = rw (w, f, ← is) (masks-last us (take i ws) mask (getD ws i []) (k .masks) stands (ap (bit mask) is ∙ off));
+          }

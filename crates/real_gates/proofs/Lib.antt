@@ -1,3 +1,4 @@
 pub mod KeyLaws
 pub mod MaskLaws
 pub mod ControlLaws
+pub mod GateLaws

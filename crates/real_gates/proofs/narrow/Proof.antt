@@ -1,12 +1,10 @@
--- `real_gates::narrow` meets its contract: the controls are read, and one word more is the target. Assumes nothing.
-use Prim.Native.Nat.{_+_, _-_, _<_, _≤_}
+-- `real_gates::narrow` meets its contract: the controls are read, and the word after them is the target. Assumes nothing.
+use Prim.Native.Nat.{_+_, _-_}
 use native.Mathlib.Omega.{arith}
-use mathlib.Core.Path.{_≡_, sym, _∙_, subst}
 use borrow.Author.Needs.{needs}
-use lib.ListN.{length, drop, take}
 use Rattle.text_words.specs.Words.{wordsOf}
-use Rattle.real_gates.specs.Gates.{ControlsRead, Masked}
-use Rattle.real_gates.proofs.ControlLaws.{next-at, wrong-controls, wrong-target, right-gate, gate-is}
+use Rattle.real_gates.proofs.ControlLaws.{line-below}
+use Rattle.real_gates.proofs.GateLaws.{not-read, mask-read, no-target, right-gate, gate-read}
 use Rattle.real_gates.proofs.narrow.Statement.{statement}
 use Rattle.real_gates.proofs.narrow.Tie as tie
 
@@ -25,14 +23,12 @@ enum-told c = search needs
 returns : tie.Need-returns
 returns c =
     let s = c .before .before in let a = s .before .before .before .before .args in let p = s .before .before .before .before .pre in
-    wrong-controls (wordsOf (a .names .now)) (wordsOf (a .rest .now)) (a .words - 1) (omega arith)
-    (subst (ControlsRead (wordsOf (a .names .now)) (a .rest .now) (a .words - 1)) (c .enum-told .given .1) (s .read-controls .ensures))
+    not-read (wordsOf (a .names .now)) (a .rest .now) (a .words - 1) (omega arith) (c .enum-told .given .1) (s .read-controls .ensures)
 
 next-word-requires : tie.Need-next-word-requires
 next-word-requires c κs =
     let s = c .before in let a = s .before .before .before .before .before .before .args in let p = s .before .before .before .before .before .before .pre in
-    let r : Masked (wordsOf (a .names .now)) (a .rest .now) (a .words - 1) (s .mask .given .0 .0) (s .mask .given .0 .1 .0) =
-    subst (ControlsRead (wordsOf (a .names .now)) (a .rest .now) (a .words - 1)) (s .mask .given .1) (s .before .before .read-controls .ensures) in
+    let r = mask-read (wordsOf (a .names .now)) (a .rest .now) (a .words - 1) (s .mask .given .1) (s .before .before .read-controls .ensures) in
     r .fits
 
 sub-place : tie.Need-sub-place
@@ -50,27 +46,19 @@ place-requires c κs = search needs
 returns-2 : tie.Need-returns-2
 returns-2 c =
     let s = c .before .before .before .before .before in let a = s .before .before .before .before .before .before .args in let p = s .before .before .before .before .before .before .pre in
-    let r : Masked (wordsOf (a .names .now)) (a .rest .now) (a .words - 1) (s .mask .given .0 .0) (s .mask .given .0 .1 .0) =
-    subst (ControlsRead (wordsOf (a .names .now)) (a .rest .now) (a .words - 1)) (s .mask .given .1) (s .before .before .read-controls .ensures) in
-    let t = next-at (a .names .now) (a .rest .now) _ _ _ (a .words - 1) _ (c .before .before .before .next-word .ensures) (r .left) (omega arith) (c .before .place .ensures) in
-    wrong-target (wordsOf (a .names .now)) (wordsOf (a .rest .now)) (a .words - 1) (omega arith) (sym (t .is) ∙ c .if1 .taken ∙ p .0 .counted)
+    let r = mask-read (wordsOf (a .names .now)) (a .rest .now) (a .words - 1) (s .mask .given .1) (s .before .before .read-controls .ensures) in
+    no-target (p .0) (c .before .before .before .next-word .ensures) (c .before .place .ensures) r (omega arith) (c .if1 .taken)
 
 cast-t18 : tie.Need-cast-t18
-cast-t18 c =
-    let s = c .before .before .before .before .before in let a = s .before .before .before .before .before .before .args in let p = s .before .before .before .before .before .before .pre in
-    let r : Masked (wordsOf (a .names .now)) (a .rest .now) (a .words - 1) (s .mask .given .0 .0) (s .mask .given .0 .1 .0) =
-    subst (ControlsRead (wordsOf (a .names .now)) (a .rest .now) (a .words - 1)) (s .mask .given .1) (s .before .before .read-controls .ensures) in
-    let t = next-at (a .names .now) (a .rest .now) _ _ _ (a .words - 1) _ (c .before .before .before .next-word .ensures) (r .left) (omega arith) (c .before .place .ensures) in
-    let d = c .if1 .left in omega arith
+cast-t18 c = let b = line-below (c .before .before .before .before .before .before .before .before .before .before .before .pre .0) (c .before .before .before .next-word .ensures) (c .before .place .ensures) (c .if1 .left) in omega arith
 
 returns-3 : tie.Need-returns-3
 returns-3 c =
     let s = c .before .before .before .before .before in let a = s .before .before .before .before .before .before .args in let p = s .before .before .before .before .before .before .pre in
-    let r : Masked (wordsOf (a .names .now)) (a .rest .now) (a .words - 1) (s .mask .given .0 .0) (s .mask .given .0 .1 .0) =
-    subst (ControlsRead (wordsOf (a .names .now)) (a .rest .now) (a .words - 1)) (s .mask .given .1) (s .before .before .read-controls .ensures) in
-    let t = next-at (a .names .now) (a .rest .now) _ _ _ (a .words - 1) _ (c .before .before .before .next-word .ensures) (r .left) (omega arith) (c .before .place .ensures) in
-    let d = c .if1 .left in
-    (right-gate (wordsOf (a .names .now)) (wordsOf (a .rest .now)) (a .words - 1) (omega arith) (r .right) (omega arith), λ h. gate-is (wordsOf (a .names .now)) (wordsOf (a .rest .now)) (a .words - 1) (omega arith) _ _ (r .is) (t .is))
+    let r = mask-read (wordsOf (a .names .now)) (a .rest .now) (a .words - 1) (s .mask .given .1) (s .before .before .read-controls .ensures) in (
+      right-gate (p .0) (c .before .before .before .next-word .ensures) (c .before .place .ensures) r (omega arith) (c .if1 .left),
+      λ h. gate-read (p .0) (c .before .before .before .next-word .ensures) (c .before .place .ensures) r (omega arith),
+    )
 
 pub narrow-spec : {M : Type 1} → statement M
 narrow-spec =
