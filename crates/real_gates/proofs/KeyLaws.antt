@@ -11,9 +11,9 @@ use lib.Pow.{pow-add, pow-mono}
 use lib.Dec.{eqb, leb}
 use borrow.Author.Tests.{eq-eqb, ne-eqb, eqb-true, leb-true}
 use Rattle.basics.proofs.Tests.{by-test, and-both, choice-true, choice-false}
-use Rattle.text.specs.Texts.{every, same, place}
+use Rattle.text.specs.Texts.{every, same, among, place}
 use Rattle.text.specs.Decimal.{isDigit}
-use Rattle.text.proofs.SameLaws.{same-refl, same-true, place-found, place-passed, place-none}
+use Rattle.text.proofs.SameLaws.{same-refl, same-true, place-found, place-passed, place-none, among-placed, among-nowhere}
 use Rattle.text_words.specs.Words.{wordsOf}
 use Rattle.text_words.specs.Runs.{part, WordAt}
 use Rattle.text_words.proofs.RunLaws.{words-none, words-some}
@@ -82,7 +82,7 @@ key-one (b ∷ t) (c ∷ u) h k e =
     let w = name-byte c (z .0) in
     ap₂ (λ x l. x ∷ l) (omega arith) (key-one t u (y .1) (z .1) (omega arith))
 
-pub name-bytes : (t : Word) → isName t ≡ true → every isNameByte t ≡ true
+name-bytes : (t : Word) → isName t ≡ true → every isNameByte t ≡ true
 unfolding isName
 name-bytes t h = and-both (every isNameByte t) (leb (length t) 8) h .0
 
@@ -157,8 +157,8 @@ every-at (word ∷ words) zero h e = and-both (isName word) (every isName words)
 every-at (word ∷ words) (suc i) h e = every-at words i (omega arith) (and-both (isName word) (every isName words) e .1)
 
 module _ (names keys : List ℕ) (at count : ℕ) (so-far : Knowing names keys at count) (from to : ℕ) (word : WordAt names at from to) where
-  pub known : from ≡ to → every isName (wordsOf names) ≡ true → Known names keys count
-  known e h =
+  pub all-known : from ≡ to → every isName (wordsOf names) ≡ true → Known names keys count
+  all-known e h =
       let n = so-far .all in
       let none = ap length (words-none names at from to word e) in
       let c : count ≡ length (wordsOf names) = omega arith in
@@ -180,8 +180,8 @@ module _ (names keys : List ℕ) (at count : ℕ) (so-far : Knowing names keys a
         rw (listed names at from to count word (so-far .left) one-more .word)
         (name-length (getD (wordsOf names) count []) (every-at (wordsOf names) count one-more h))
 
-    pub knowing : (now : List ℕ) → now ≡ set keys count (keyOf (part names from to)) → Knowing names now to (count + 1)
-    knowing now e =
+    pub knowing-more : (now : List ℕ) → now ≡ set keys count (keyOf (part names from to)) → Knowing names now to (count + 1)
+    knowing-more now e =
         let next = listed names at from to count word (so-far .left) one-more in
         let further = next .some in
         let n = so-far .all in
@@ -213,3 +213,10 @@ module _ (names keys : List ℕ) (count : ℕ) (known : Known names keys count) 
 
   pub place-no-name : isName word ≡ false → count ≡ place (wordsOf names) word
   place-no-name k = known .counted ∙ sym (no-name-place (wordsOf names) word (known .are) k)
+
+  -- a word is declared where its place is one of the names'
+  pub among-known : (line : ℕ) → line ≡ place (wordsOf names) word → (line ≡ count → ⊥) → among word (wordsOf names) ≡ true
+  among-known line e d = among-placed (wordsOf names) word (λ z. d (e ∙ z ∙ sym (known .counted)))
+
+  pub among-unknown : (line : ℕ) → line ≡ place (wordsOf names) word → line ≡ count → among word (wordsOf names) ≡ false
+  among-unknown line e z = among-nowhere (wordsOf names) word (sym e ∙ z ∙ known .counted)

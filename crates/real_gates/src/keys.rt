@@ -41,16 +41,16 @@ pub fn remember(names: &[u8], keys: &mut [u64]) -> usize
     ensures { λ r. ⌜ Known (now (names .entry)) (now (keys .exit)) r ⌝ }
 {
     let mut at = 0;
-    let mut count = 0;
+    let mut known = 0;
     loop {
         let span = runs::next_word(names, at);
         let from = span.from;
         let to = span.to;
         if from == to {
-            return count;
+            return known;
         }
-        put_key(keys, count, &names[from..to]);
-        count += 1;
+        put_key(keys, known, &names[from..to]);
+        known += 1;
         at = to;
     }
 }
@@ -67,7 +67,7 @@ fn find(keys: &[u64], count: usize, key: u64) -> usize
         }
         i += 1;
     }
-    i
+    count
 }
 
 // How many names stand before a word; all of them where it is none of them.

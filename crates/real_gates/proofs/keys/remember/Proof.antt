@@ -3,15 +3,15 @@ use Prim.Native.Nat.{_-_}
 use mathlib.Core.Path.{_≡_, refl, _∙_}
 use native.Mathlib.Omega.{arith}
 use lib.ListN.{length}
-use Rattle.real_gates.proofs.KeyLaws.{Knowing, knowing-none, known, next-length, knowing}
+use Rattle.real_gates.proofs.KeyLaws.{Knowing, knowing-none, knowing-more, next-length, all-known}
 use Rattle.real_gates.proofs.keys.remember.Statement.{statement}
 use Rattle.real_gates.proofs.keys.remember.Tie as tie
 
 abbrev Inv-loop : tie.InvT-loop
-Inv-loop names keys₀ at₀ count₀ keys at count = (length keys ≡ length keys₀) × Knowing names keys at count
+Inv-loop names keys₀ at₀ known₀ keys at known = (length keys ≡ length keys₀) × Knowing names keys at known
 
 abbrev μ-loop : tie.MeasureT-loop
-μ-loop names keys₀ at₀ count₀ keys at count = length names - at
+μ-loop names keys₀ at₀ known₀ keys at known = length names - at
 
 loop-holds : tie.Need-loop-holds Inv-loop μ-loop
 loop-holds c = let a = c .before .before .args in (refl, knowing-none (a .names .now) (a .keys .now))
@@ -26,7 +26,7 @@ returns : tie.Need-returns Inv-loop μ-loop
 returns c =
     let l = c .before .before .loop in
     let s = c .before .before .before .before .before in
-    known (s .args .names .now) (l .keys) (l .at) (l .count) (l .inv .1) _ _ (c .before .next-word .ensures) (c .if1 .taken) (s .pre)
+    all-known (s .args .names .now) (l .keys) (l .at) (l .known) (l .inv .1) _ _ (c .before .next-word .ensures) (c .if1 .taken) (s .pre)
 
 sub-put-key : tie.Need-sub-put-key Inv-loop μ-loop
 sub-put-key c = let word = c .before .before .next-word .ensures in omega arith
@@ -42,10 +42,10 @@ put-key-requires c κs =
     let n = c .before .before .before in
     let l = n .before .loop in
     let s = n .before .before .before .before in
-    next-length (s .args .names .now) (l .keys) (l .at) (l .count) (l .inv .1) _ _ (n .next-word .ensures) (c .before .before .if1 .left) (s .pre)
+    next-length (s .args .names .now) (l .keys) (l .at) (l .known) (l .inv .1) _ _ (n .next-word .ensures) (c .before .before .if1 .left) (s .pre)
 
-add-count : tie.Need-add-count Inv-loop μ-loop
-add-count c =
+add-known : tie.Need-add-known Inv-loop μ-loop
+add-known c =
     let n = c .before .before .before .before .before .before in
     let word = n .next-word .ensures in
     let so-far = n .before .loop .inv .1 in
@@ -65,7 +65,7 @@ loop-again c =
     let l = n .before .loop in
     let a = n .before .before .before .before .args in (
       put .kept .0 ∙ l .inv .0,
-      knowing (a .names .now) (l .keys) (l .at) (l .count) (l .inv .1) _ _ (n .next-word .ensures) (test .if1 .left) _ (put .ensures),
+      knowing-more (a .names .now) (l .keys) (l .at) (l .known) (l .inv .1) _ _ (n .next-word .ensures) (test .if1 .left) _ (put .ensures),
     )
 
 pub remember-spec : {M : Type 1} → statement M
@@ -82,6 +82,6 @@ remember-spec =
     part-put-key-start
     part-put-key-end
     put-key-requires
-    add-count
+    add-known
     loop-less
     loop-again)
