@@ -1,44 +1,36 @@
 -- Laws of controls read one by one: each that is declared and new makes one line of the mask 1, and any other ends the reading.
 use Prim.Native.Nat.{ℕ, zero, suc, _+_, _-_, _^_, _<_, _≤_}
 use mathlib.Core.Path.{_≡_, refl, sym, ap, _∙_}
-use mathlib.Core.Bool.{Bool, true, false, not, _&&_, _||_, false≢true}
+use mathlib.Core.Bool.{Bool, true, false, not, _&&_, _||_, false≢true, and-assoc, or-assoc, and-true as and-all, or-false as or-none}
 use mathlib.Core.List.{List, [], _∷_, _++_}
 use native.Mathlib.Omega.{arith}
 use native.Mathlib.Numerals.{add-one}
 use lib.ListN.{length, take, drop, getD}
-use lib.Seq.{take-suc, take-take, take-length, getD-take, length-take-le}
+use lib.Seq.{take-suc, take-take, getD-take, length-take-le}
 use lib.Dec.{eqb}
 use borrow.Author.Tests.{eq-eqb, ne-eqb, not-true}
 use Rattle.basics.specs.Lists.{some}
-use Rattle.basics.proofs.Tests.{by-test, by-equal, and-both, and-true, or-false, or-left, or-right, or-neither}
+use Rattle.basics.proofs.Tests.{by-test, by-equal, and-both, and-true, or-false, or-right, or-neither}
 use Rattle.words.specs.Word.{bit, flip}
 use Rattle.words.proofs.Bits.{bit-le, bit-of-zero}
 use Rattle.words.proofs.Lines.{bit-flip-same, bit-flip-other}
 use Rattle.text.specs.Texts.{every, same, among, distinct, place}
-use Rattle.text.proofs.SameLaws.{same-refl, same-true, place-found, place-passed, place-none, among-placed, among-nowhere}
-use Rattle.text.proofs.EveryLaws.{every-append}
+use Rattle.text.proofs.SameLaws.{same-refl, same-true, place-found, place-passed, among-placed}
 use Rattle.text_words.specs.Words.{wordsOf}
 use Rattle.text_words.specs.Runs.{part, WordAt}
 use Rattle.text_words.proofs.PlaceLaws.{place-le, place-most, Listed, listed}
 use Rattle.real.specs.Form.{Word, maskOf}
 use Rattle.real_gates.specs.Keys.{Known}
 use Rattle.real_gates.specs.Gates.{areControls, Masked}
+use Rattle.real_gates.proofs.KeyLaws.{among-unknown}
 use Rattle.real_gates.proofs.MaskLaws.{flip-adds, mask-more}
 
 -- ---- one text more at the end
 
 some-last : {A : Type 0} (p : A → Bool) (xs : List A) (x : A) → some p (xs ++ (x ∷ [])) ≡ some p xs || p x
 unfolding some
-some-last p [] x = or-last (p x)
-  where
-    or-last : (b : Bool) → b || false ≡ b
-    or-last true = refl
-    or-last false = refl
-some-last p (y ∷ xs) x = ap (λ b. p y || b) (some-last p xs x) ∙ or-assoc (p y) (some p xs) (p x)
-  where
-    or-assoc : (a b c : Bool) → a || (b || c) ≡ (a || b) || c
-    or-assoc true b c = refl
-    or-assoc false b c = refl
+some-last p [] x = or-none (p x)
+some-last p (y ∷ xs) x = ap (λ b. p y || b) (some-last p xs x) ∙ sym (or-assoc (p y) (some p xs) (p x))
 
 among-last : (t : Word) (us : List Word) (u : Word) → among t (us ++ (u ∷ [])) ≡ among t us || same t u
 unfolding among
@@ -50,22 +42,15 @@ distinct-last [] u d e = refl
 distinct-last (v ∷ us) u d e =
     let w = and-both (not (among v us)) (distinct us) d in
     let n = or-neither (same u v) (among u us) e in
-    let other : same v u ≡ false = by-test (same v u) (λ s. absurd (false≢true (sym (n .0) ∙ ap (same u) (same-true v u s) ∙ same-refl u))) (λ s. s) in
+    let other : same v u ≡ false =
+    by-test (same v u) (λ s. absurd (false≢true (sym (n .0) ∙ ap (same u) (same-true v u s) ∙ same-refl u))) (λ s. s) in
     let none : among v us ≡ false = not-true (among v us) (w .0) in
     and-true (ap not (among-last v us u ∙ or-false none other)) (distinct-last us u (w .1) (n .1))
 
 pub every-last : {A : Type 0} (p : A → Bool) (xs : List A) (x : A) → every p (xs ++ (x ∷ [])) ≡ every p xs && p x
 unfolding every
-every-last p [] x = and-last (p x)
-  where
-    and-last : (b : Bool) → b && true ≡ b
-    and-last true = refl
-    and-last false = refl
-every-last p (y ∷ xs) x = ap (λ b. p y && b) (every-last p xs x) ∙ and-assoc (p y) (every p xs) (p x)
-  where
-    and-assoc : (a b c : Bool) → a && (b && c) ≡ (a && b) && c
-    and-assoc true b c = refl
-    and-assoc false b c = refl
+every-last p [] x = and-all (p x)
+every-last p (y ∷ xs) x = ap (λ b. p y && b) (every-last p xs x) ∙ sym (and-assoc (p y) (every p xs) (p x))
 
 -- ---- one entry that fails, one that stood before
 
@@ -109,7 +94,7 @@ pub record Masks (names ws : List Word) (m : ℕ) : Type 0 where
   pub is : m ≡ maskOf names ws
   pub on : (t : Word) → place names t < length names → eqb (bit m (place names t)) 1 ≡ among t ws
 
-pub masks-none : (names : List Word) → Masks names [] 0
+masks-none : (names : List Word) → Masks names [] 0
 unfolding every distinct among some maskOf
 masks-none names = record { right = refl; is = refl; on = λ t h. rw (bit-of-zero (place names t)) }
 
@@ -134,10 +119,6 @@ masks-last names ws m w k h e =
           ap (λ b. eqb b 1) (bit-flip-other m (place names w) (place names t) d) ∙ k .on t l
           ∙ sym (among-last t ws w ∙ ap (λ b. among t ws || b) other ∙ or-none (among t ws)));
     }
-  where
-    or-none : (b : Bool) → b || false ≡ b
-    or-none true = refl
-    or-none false = refl
 
 -- some words of a line were read: where the others start, and the mask of these
 pub record Reading (names rest : List ℕ) (mask at i : ℕ) : Type 0 where
@@ -148,7 +129,8 @@ pub record Reading (names rest : List ℕ) (mask at i : ℕ) : Type 0 where
 pub reading-none : (names rest : List ℕ) → Reading names rest 0 0 0
 reading-none names rest = record { fits = omega arith; left = refl; masks = masks-none (wordsOf names) }
 
-pub masked : {names rest : List ℕ} {mask at i wanted : ℕ} → Reading names rest mask at i → i ≡ wanted → Masked (wordsOf names) rest wanted mask at
+pub masked : {names rest : List ℕ} {mask at i wanted : ℕ} → Reading names rest mask at i → i ≡ wanted
+    → Masked (wordsOf names) rest wanted mask at
 masked k e = rw (← e) (record { fits = k .fits; left = k .left; right = k .masks .right; is = k .masks .is })
 
 -- the next word and its line
@@ -182,7 +164,7 @@ module _ {names keys rest : List ℕ} {count at from to line : ℕ} (known : Kno
 
     pub not-declared : line ≡ count → areControls us (take wanted ws) ≡ false
     not-declared f = and-left (distinct (take wanted ws)) (every-fails (declared us) (take wanted ws) i [] below
-        (ap (declared us) here ∙ among-nowhere us (getD ws i []) (is ∙ f ∙ known .counted)))
+        (ap (declared us) here ∙ among-unknown names keys count known (getD ws i []) line (sym is) f))
 
     module _ (other : line ≡ count → ⊥) where
       stands : place us (getD ws i []) < length us

@@ -1,7 +1,7 @@
 -- Laws of a gate's words: k controls, and the target.
-use Prim.Native.Nat.{ℕ, _+_, _-_, _<_, _≤_}
-use mathlib.Core.Path.{_≡_, refl, sym, ap, _∙_, subst}
-use mathlib.Core.Bool.{Bool, true, false, _&&_}
+use Prim.Native.Nat.{ℕ, _+_, _-_}
+use mathlib.Core.Path.{_≡_, sym, ap, _∙_, subst}
+use mathlib.Core.Bool.{Bool, true, false, _&&_, and-assoc, and-comm}
 use mathlib.Core.List.{List, [], _∷_, _++_}
 use native.Mathlib.Omega.{arith}
 use native.Mathlib.Numerals.{add-one}
@@ -9,7 +9,6 @@ use lib.ListN.{length, take, getD}
 use lib.Seq.{take-suc, take-length}
 use Rattle.basics.proofs.Tests.{and-true}
 use Rattle.text.specs.Texts.{every, among, distinct, place}
-use Rattle.text.proofs.SameLaws.{among-placed, among-nowhere}
 use Rattle.text_words.specs.Words.{wordsOf}
 use Rattle.text_words.specs.Runs.{part, WordAt}
 use Rattle.text_words.proofs.PlaceLaws.{listed}
@@ -18,7 +17,11 @@ use Rattle.real_gates.specs.declared.Controls.{Controls}
 use Rattle.real_gates.specs.declared.Controls.the-variants as controls
 use Rattle.real_gates.specs.Keys.{Known}
 use Rattle.real_gates.specs.Gates.{areControls, Masked, ControlsRead, areGate}
+use Rattle.real_gates.proofs.KeyLaws.{among-known, among-unknown}
 use Rattle.real_gates.proofs.ControlLaws.{declared, every-last, and-left, and-right}
+
+and-swapped : (a b c : Bool) → (a && b) && c ≡ (a && c) && b
+and-swapped a b c = and-assoc a b c ∙ ap (λ d. a && d) (and-comm b c) ∙ sym (and-assoc a c b)
 
 module _ (names words : List Word) (k : ℕ) (last : k + 1 ≡ length words) where
   controls-are : controlsOf words ≡ take k words
@@ -39,14 +42,7 @@ module _ (names words : List Word) (k : ℕ) (last : k + 1 ≡ length words) whe
   apart =
       gate-parts
       ∙ ap (λ b. b && distinct (take k words)) (ap (every (declared names)) whole ∙ every-last (declared names) (take k words) (getD words k []))
-      ∙ and-turned (every (declared names) (take k words)) (among (getD words k []) names) (distinct (take k words))
-    where
-      and-turned : (a b c : Bool) → (a && b) && c ≡ (a && c) && b
-      and-turned true true true = refl
-      and-turned true true false = refl
-      and-turned true false true = refl
-      and-turned true false false = refl
-      and-turned false b c = refl
+      ∙ and-swapped (every (declared names) (take k words)) (among (getD words k []) names) (distinct (take k words))
 
   wrong-controls : areControls names (take k words) ≡ false → areGate names words ≡ false
   wrong-controls e = apart ∙ and-left (among (getD words k []) names) e
@@ -88,10 +84,10 @@ module _ {names keys rest : List ℕ} {count k mask at from to line : ℕ} (know
   is = e ∙ ap (place us) (listed rest at from to k n (m .left) (omega arith) .word)
 
   pub no-target : line ≡ count → areGate us ws ≡ false
-  no-target f = apart us ws k last ∙ and-right (areControls us (take k ws)) (among-nowhere us (getD ws k []) (sym is ∙ f ∙ known .counted))
+  no-target f = apart us ws k last ∙ and-right (areControls us (take k ws)) (among-unknown names keys count known (getD ws k []) line is f)
 
   pub right-gate : (line ≡ count → ⊥) → areGate us ws ≡ true
-  right-gate d = apart us ws k last ∙ and-true (m .right) (among-placed us (getD ws k []) (λ z. d (is ∙ z ∙ sym (known .counted))))
+  right-gate d = apart us ws k last ∙ and-true (m .right) (among-known names keys count known (getD ws k []) line is d)
 
   pub gate-read : gateOf us ws ≡ mask ∷ 0 ∷ line ∷ []
   gate-read = gate-is us ws k last mask line (m .is) is

@@ -1,5 +1,5 @@
 -- `real_gates::narrow` meets its contract: the controls are read, and the word after them is the target. Assumes nothing.
-use Prim.Native.Nat.{_+_, _-_}
+use Prim.Native.Nat.{_-_}
 use native.Mathlib.Omega.{arith}
 use borrow.Author.Needs.{needs}
 use Rattle.text_words.specs.Words.{wordsOf}
@@ -27,7 +27,7 @@ returns c =
 
 next-word-requires : tie.Need-next-word-requires
 next-word-requires c κs =
-    let s = c .before in let a = s .before .before .before .before .before .before .args in let p = s .before .before .before .before .before .before .pre in
+    let s = c .before in let b = s .before .before .before .before .before .before in let a = b .args in let p = b .pre in
     let r = mask-read (wordsOf (a .names .now)) (a .rest .now) (a .words - 1) (s .mask .given .1) (s .before .before .read-controls .ensures) in
     r .fits
 
@@ -45,20 +45,23 @@ place-requires c κs = search needs
 
 returns-2 : tie.Need-returns-2
 returns-2 c =
-    let s = c .before .before .before .before .before in let a = s .before .before .before .before .before .before .args in let p = s .before .before .before .before .before .before .pre in
+    let n = c .before .before .before in let s = n .before .before in let b = s .before .before .before .before .before .before in
+    let a = b .args in let p = b .pre in
     let r = mask-read (wordsOf (a .names .now)) (a .rest .now) (a .words - 1) (s .mask .given .1) (s .before .before .read-controls .ensures) in
-    no-target (p .0) (c .before .before .before .next-word .ensures) (c .before .place .ensures) r (omega arith) (c .if1 .taken)
+    no-target (p .0) (n .next-word .ensures) (c .before .place .ensures) r (omega arith) (c .if1 .taken)
 
 cast-t18 : tie.Need-cast-t18
-cast-t18 c = let b = line-below (c .before .before .before .before .before .before .before .before .before .before .before .pre .0) (c .before .before .before .next-word .ensures) (c .before .place .ensures) (c .if1 .left) in omega arith
+cast-t18 c =
+    let n = c .before .before .before in let p = n .before .before .before .before .before .before .before .before .pre in
+    let b = line-below (p .0) (n .next-word .ensures) (c .before .place .ensures) (c .if1 .left) in omega arith
 
 returns-3 : tie.Need-returns-3
 returns-3 c =
-    let s = c .before .before .before .before .before in let a = s .before .before .before .before .before .before .args in let p = s .before .before .before .before .before .before .pre in
-    let r = mask-read (wordsOf (a .names .now)) (a .rest .now) (a .words - 1) (s .mask .given .1) (s .before .before .read-controls .ensures) in (
-      right-gate (p .0) (c .before .before .before .next-word .ensures) (c .before .place .ensures) r (omega arith) (c .if1 .left),
-      λ h. gate-read (p .0) (c .before .before .before .next-word .ensures) (c .before .place .ensures) r (omega arith),
-    )
+    let n = c .before .before .before in let s = n .before .before in let b = s .before .before .before .before .before .before in
+    let a = b .args in let p = b .pre in
+    let r = mask-read (wordsOf (a .names .now)) (a .rest .now) (a .words - 1) (s .mask .given .1) (s .before .before .read-controls .ensures) in
+    let g = gate-read (p .0) (n .next-word .ensures) (c .before .place .ensures) r (omega arith) in
+    (right-gate (p .0) (n .next-word .ensures) (c .before .place .ensures) r (omega arith) (c .if1 .left), λ h. g)
 
 pub narrow-spec : {M : Type 1} → statement M
 narrow-spec =

@@ -38,10 +38,14 @@ returns c =
     not-declared (p .0) (s .next-word .ensures) (c .before .place .ensures) (l .loop .inv .1) (omega arith) (p .1 .1) (c .if1 .taken)
 
 cast-value : tie.Need-cast-value Inv-loop μ-loop
-cast-value c = let b = line-below (c .before .before .before .before .before .before .before .before .before .pre .0) (c .before .before .before .next-word .ensures) (c .before .place .ensures) (c .if1 .left) in omega arith
+cast-value c =
+    let s = c .before .before .before in let p = s .before .before .before .before .before .before .pre in
+    let b = line-below (p .0) (s .next-word .ensures) (c .before .place .ensures) (c .if1 .left) in omega arith
 
 value-requires : tie.Need-value-requires Inv-loop μ-loop
-value-requires c κs = let b = line-below (c .before .before .before .before .before .before .before .before .before .pre .0) (c .before .before .before .next-word .ensures) (c .before .place .ensures) (c .if1 .left) in omega arith
+value-requires c κs =
+    let s = c .before .before .before in let p = s .before .before .before .before .before .before .pre in
+    let b = line-below (p .0) (s .next-word .ensures) (c .before .place .ensures) (c .if1 .left) in omega arith
 
 returns-2 : tie.Need-returns-2 Inv-loop μ-loop
 returns-2 c =
@@ -51,11 +55,13 @@ returns-2 c =
 
 cast-flip : tie.Need-cast-flip Inv-loop μ-loop
 cast-flip c =
-    let b = line-below (c .before .before .before .before .before .before .before .before .before .before .before .pre .0) (c .before .before .before .before .before .next-word .ensures) (c .before .before .before .place .ensures) (c .before .before .if1 .left) in omega arith
+    let s = c .before .before .before .before .before in let p = s .before .before .before .before .before .before .pre in
+    let b = line-below (p .0) (s .next-word .ensures) (c .before .before .before .place .ensures) (c .before .before .if1 .left) in omega arith
 
 flip-requires : tie.Need-flip-requires Inv-loop μ-loop
 flip-requires c κs =
-    let b = line-below (c .before .before .before .before .before .before .before .before .before .before .before .pre .0) (c .before .before .before .before .before .next-word .ensures) (c .before .before .before .place .ensures) (c .before .before .if1 .left) in omega arith
+    let s = c .before .before .before .before .before in let p = s .before .before .before .before .before .before .pre in
+    let b = line-below (p .0) (s .next-word .ensures) (c .before .before .before .place .ensures) (c .before .before .if1 .left) in omega arith
 
 add-i : tie.Need-add-i Inv-loop μ-loop
 add-i c = omega arith
