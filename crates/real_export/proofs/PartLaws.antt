@@ -1,14 +1,13 @@
 -- Laws of the parts of a text: which names stand in them, how long they are, and that they are what is put.
-use Prim.Native.Nat.{ℕ, suc, _+_, _*_, _/_, _<_, _≤_}
-use mathlib.Core.Path.{_≡_, refl, sym, ap, _∙_}
-use mathlib.Core.Bool.{true, false}
+use Prim.Native.Nat.{ℕ, suc, _+_, _/_, _<_, _≤_}
+use mathlib.Core.Path.{_≡_, sym, ap, _∙_}
 use mathlib.Core.List.{List, [], _∷_, _++_}
 use native.Mathlib.Omega.{arith}
 use native.Mathlib.Numerals.{add-one}
-use lib.ListN.{length, set, length-append}
+use lib.ListN.{length, drop, set, length-append}
 use lib.Dec.{eqb}
 use borrow.Author.Tests.{eq-eqb, ne-eqb}
-use Rattle.basics.specs.Lists.{upFrom}
+use Rattle.basics.specs.Lists.{upFrom, each}
 use Rattle.basics.proofs.Tests.{by-test, choice-true, choice-false}
 use Rattle.basics.proofs.Lists.{keep-le, length-upFrom, all-upFrom}
 use Rattle.words.specs.Word.{bit, allOnes, linesOn}
@@ -17,11 +16,14 @@ use Rattle.text.specs.Texts.{ascii}
 use Rattle.text.specs.Decimal.{decimal}
 use Rattle.text.proofs.TextLaws.{decimal-small, room-more, digits-most}
 use Rattle.circuit.specs.Limits.{mostLines}
-use Rattle.circuit.specs.Sound.{GateOk}
+use Rattle.circuit.specs.Gates.{gatesOf, noGate, gateAt}
+use Rattle.circuit.specs.Sound.{GateOk, Sound}
 use Rattle.circuit.specs.declared.Gate.{Gate}
+use Rattle.circuit.proofs.GateLaws.{gate-entry}
+use Rattle.circuit.proofs.RuleLaws.{gate-ok}
 use Rattle.real.specs.Export.{nameOf}
 use Rattle.real_export.specs.Parts.{spacedName, nameIf, namesOn, gateText, headText}
-use Rattle.real_export.proofs.EachLaws.{each-few}
+use Rattle.real_export.proofs.EachLaws.{each-few, each-more}
 use Rattle.real_export.proofs.PutLaws.{Puts, put-byte, put-then}
 
 -- ---- numbers below 100
@@ -62,8 +64,12 @@ module _ (w j : ℕ) where
       (λ e. rw e (omega arith))
 
 pub names-few : (n w : ℕ) → n ≤ mostLines → length (namesOn n w) ≤ 128
-names-few n w h = omega (arith, length-upFrom 0 n, each-few (nameIf w) 4 (upFrom 0 n)
-    (all-upFrom (λ j. length (nameIf w j) ≤ 4) 0 n (λ j l m. name-few w j (omega arith))))
+names-few n w h = omega (
+  arith,
+  length-upFrom 0 n,
+  each-few (nameIf w) 4 (upFrom 0 n)
+      (all-upFrom (λ j. length (nameIf w j) ≤ 4) 0 n (λ j l m. name-few w j (omega arith))),
+)
 
 -- ---- the line of a gate
 
@@ -119,6 +125,17 @@ module _ (n : ℕ) (g : Gate) (fits : n ≤ mostLines) (ok : GateOk n g) where
       (put-then (set out at 116) (at + 1) d (m ++ (t ++ (10 ∷ []))) number (last + 1) o1 (set o3 last 10) p
       (put-then o1 number m (t ++ (10 ∷ [])) names (last + 1) o2 (set o3 last 10) q
       (put-then o2 names t (10 ∷ []) last (last + 1) o3 (set o3 last 10) r (put-byte o3 last 10))))
+
+-- ---- the gates, one a turn
+
+module _ (n : ℕ) (words : List ℕ) (ok : Sound n words) (i number : ℕ) (g : Gate)
+    (h : i < length (gatesOf words)) (e : number ≡ i + 1) (read : g ≡ gateAt (gatesOf words) number) where
+  pub turn-ok : GateOk n g
+  turn-ok = rw read (gate-ok n words number ok (omega arith) (omega arith))
+
+  pub turn-more : each (gateText n) (drop i (gatesOf words)) ≡ gateText n g ++ each (gateText n) (drop (i + 1) (gatesOf words))
+  turn-more = each-more (gateText n) (gatesOf words) i noGate h
+      ∙ ap (λ gate. gateText n gate ++ each (gateText n) (drop (i + 1) (gatesOf words))) (sym (read ∙ gate-entry (gatesOf words) i number e))
 
 -- ---- the lines before the gates
 
