@@ -7,8 +7,8 @@ use inputs::{make, Random};
 use model::{compact_bound, export_real, image_of, Job};
 use nufsadeem::Circuit;
 
-/// As include/nufsadeem.h has it.
-const LONGEST_TEXT: usize = 125_094;
+/// The bytes of the longest text of a circuit, as include/nufsadeem.h has it.
+const LONGEST_REAL: usize = 125_094;
 
 pub fn compare(tally: &mut Tally) -> Result<(), String> {
     numbers_of_lines(tally)?;
@@ -253,8 +253,8 @@ fn longest_text(tally: &mut Tally) -> Result<(), String> {
     let gates = [u32::MAX >> 1, 0, 31].repeat(1024);
     text_calls(tally, 32, &gates)?;
     let longest = Circuit::new(32, &gates).export_real();
-    tally.holds(longest.map(|text| text.len()) == Ok(LONGEST_TEXT), || {
-        format!("the longest text has not {} bytes", LONGEST_TEXT)
+    tally.holds(longest.map(|text| text.len()) == Ok(LONGEST_REAL), || {
+        format!("the longest text has not {} bytes", LONGEST_REAL)
     })?;
     for depth in [0, 1, 2, 1023] {
         let text = Circuit::new(32, &gates[..3 * depth]).export_real();

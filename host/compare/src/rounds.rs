@@ -3,7 +3,7 @@
 use crate::case::Question;
 use crate::tally::Tally;
 use inputs::make::{self, Drawn};
-use inputs::{texts, Random};
+use inputs::{damage_text, damaged_text, good_text, Random};
 use model::{compact_bound, export_real, image_of, import_real};
 use nufsadeem::{Circuit, Class};
 
@@ -108,12 +108,12 @@ fn real_texts(tally: &mut Tally, random: &mut Random, drawn: &Drawn) -> Result<(
     tally.circuit(lines, gates, Question::ExportReal { room })?;
     let mut exported = exported.into_bytes();
     tally.text(&exported, make::room(random, gates.len()))?;
-    texts::damage_bytes(random, &mut exported);
+    damage_text(random, &mut exported);
     tally.text(&exported, gates.len())?;
     for _ in 0..2 {
-        real_text(tally, random, texts::text)?;
-        real_text(tally, random, texts::damaged_text)?;
-        real_text(tally, random, texts::damaged_text)?;
+        real_text(tally, random, good_text)?;
+        real_text(tally, random, damaged_text)?;
+        real_text(tally, random, damaged_text)?;
     }
     Ok(())
 }

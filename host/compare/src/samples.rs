@@ -1,4 +1,5 @@
-//! The samples of docs/SCOPE.md, with the answers that it prints. Here the simulator has no say.
+//! The samples of docs/SCOPE.md, with the answers that it prints, and texts whose answers are written by hand. Here the simulator
+//! has no say.
 
 use crate::tally::Tally;
 use inputs::{REAL_SAMPLES, SAMPLE_REAL};
