@@ -1,5 +1,5 @@
 -- Laws of tables of rules, for every table: a check of some of its rows decides the whole.
-use Prim.Native.Nat.{ℕ}
+use Prim.Native.Nat.{ℕ, _<_}
 use mathlib.Core.Path.{_≡_, refl, sym, _∙_}
 use mathlib.Core.Bool.{Bool, true, false}
 use mathlib.Core.List.{List, [], _∷_, _++_}
@@ -78,6 +78,19 @@ pub refused-number : (rows : List Row) (k p : ℕ) → Numbered rows → refused
 refused-number [] k p w e = λ z. refused-answered e
 refused-number (refuse n at q when true ∷ rows) k p w e = λ z. let same : k ≡ n = cc in w .0 (sym same ∙ z)
 refused-number (refuse n at q when false ∷ rows) k p w e = refused-number rows k p (w .1) e
+
+-- numbers and places below a bound, of each row where none before it is broken
+abbrev pub Below : ℕ → List Row → Type 0
+Below bound [] = Unit {0}
+Below bound (refuse number at place when broken ∷ rows) = (number < bound) × (place < bound) × (broken ≡ false → Below bound rows)
+
+pub refused-below : (bound : ℕ) (rows : List Row) (k p : ℕ) → Below bound rows → refused k p ≡ firstOf rows fine → (k < bound) × (p < bound)
+refused-below bound [] k p w e = refused-answered e
+refused-below bound (refuse n at q when true ∷ rows) k p w e =
+    let number : k ≡ n = cc in
+    let place : p ≡ q = cc in
+    rw (number, place) (w .0, w .1)
+refused-below bound (refuse n at q when false ∷ rows) k p w e = refused-below bound rows k p (w .2 refl) e
 
 -- two refusals that tell the same are the same
 pub told-refusal : (p q : Refusal) → refused (p .number) (p .place) ≡ refused (q .number) (q .place) → p ≡ q

@@ -1,5 +1,5 @@
 -- Laws of the whole report: its text in parts, and what bytes that are read say of it.
-use Prim.Native.Nat.{ℕ, _+_, _*_, _/_, _<_, _≤_}
+use Prim.Native.Nat.{ℕ, _+_, _*_, _/_, _^_, _<_, _≤_}
 use mathlib.Core.Path.{_≡_, refl, ap, sym, _∙_}
 use mathlib.Core.Bool.{false}
 use mathlib.Core.List.{List, [], _∷_, _++_, append-assoc, append-nil}
@@ -11,19 +11,19 @@ use Rattle.basics.specs.Lists.{each}
 use Rattle.refusals.specs.Tables.{Row, Told, firstOf}
 use Rattle.refusals.specs.Tables.Told.{answered, refused}
 use Rattle.refusals.specs.Checks.{fine}
-use Rattle.refusals.proofs.Tables.{refused-on, fine-on, fine-parts, after-fine, answered-fine, refused-rows}
+use Rattle.refusals.proofs.Tables.{refused-on, fine-on, fine-parts, after-fine, answered-fine, refused-rows, Below, refused-below}
 use Rattle.circuit.specs.Limits.{mostGates, mostVectors}
 use Rattle.circuit.specs.Sound.{Sound}
 use Rattle.circuit.proofs.GateLaws.{gates-count}
-use Rattle.circuit.proofs.RuleLaws.{VectorsOk}
+use Rattle.circuit.proofs.RuleLaws.{VectorsOk, counts-right, first-bad-le, first-vector-le}
 use Rattle.job.specs.Image.{linesIn, classesIn, gatesIn, vectorsIn, gateWords, vectorWords}
 use Rattle.job.specs.Promises.{readTells, readLeavesGates, readLeavesVectors}
 use Rattle.job.specs.Answers.{toldRead}
 use Rattle.job.specs.declared.Read.{Read}
 use Rattle.job.specs.declared.Read.the-variants.{Job}
-use Rattle.job.specs.Rules.{readRows, headerRows, contentRowsIn, roomRows}
+use Rattle.job.specs.Rules.{readRows, headerRows, contentRows, contentRowsIn, roomRows}
 use Rattle.basics.proofs.PutLaws.{sets-append, sets-front}
-use Rattle.job.proofs.ImageLaws.{gates-front, vectors-front}
+use Rattle.job.proofs.ImageLaws.{gates-front, vectors-front, length-gate-words, length-vector-words}
 use Rattle.job.proofs.HeaderLaws.{header-ok}
 use Rattle.job.proofs.ReadLaws.{read-ok, read-set}
 use Rattle.report_text.specs.Lines.{spaced, line}
@@ -119,9 +119,28 @@ text-as text last end same h = rw (← same) h
 
 -- ---- the call
 
+-- a job's refusals have small numbers, and places of a gate or a vector, or the next
+job-below : (bytes : List ℕ) → Below (10 ^ 10) (jobRows bytes)
+unfolding readRows headerRows contentRows
+job-below bytes =
+    let none : (0 < 10 ^ 10) = omega arith in
+    (omega arith, none, λ _. (omega arith, none, λ _. (omega arith, none, λ _. (omega arith, none, λ _. (omega arith, none, λ counts.
+    let w = counts-right (gatesIn bytes) (vectorsIn bytes) counts in
+    (omega arith, none, λ _. (
+      omega arith,
+      omega (arith, first-bad-le (linesIn bytes) (gateWords bytes), length-gate-words bytes, w .0),
+      λ _. (
+        omega arith,
+        omega (arith, first-vector-le (linesIn bytes) (vectorWords bytes), length-vector-words bytes, w .1),
+        λ _. (omega arith, none, λ _. tt),
+      ),
+    )))))))
+
 text-of-fits : (bytes : List ℕ) (told : Told) → told ≡ firstOf (jobRows bytes) fine
     → length (textOf told (jobText (linesIn bytes) (classesIn bytes) (gateWords bytes) (vectorWords bytes))) ≤ longestReport
-text-of-fits bytes (refused number place) e = refused-fits number place
+text-of-fits bytes (refused number place) e =
+    let w = refused-below (10 ^ 10) (jobRows bytes) number place (job-below bytes) e in
+    refused-fits number place (w .0) (w .1)
 text-of-fits bytes (answered values) e =
     let ok = job-set bytes (answered-fine (jobRows bytes) values [] e .1) in
     job-fits (linesIn bytes) (classesIn bytes) (gateWords bytes) (vectorWords bytes) (ok .set .circuit) (ok .set .vectors-fit)
