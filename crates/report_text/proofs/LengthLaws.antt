@@ -1,7 +1,7 @@
 -- How long the report can be: 100 bytes.
 -- J 15 (lines of 2 digits, gates and vectors of 4), S 24 (numbers of 5 digits, a level of 4, a line of 2, a value of 1),
 -- M 17 (three numbers of 4), C and X 22 each (numbers of 5 digits, a gate of 4, a line of 2).
-use Prim.Native.Nat.{ℕ, zero, suc, _+_, _*_, _^_, _<_, _≤_}
+use Prim.Native.Nat.{ℕ, suc, _+_, _*_, _^_, _<_, _≤_}
 use mathlib.Core.Path.{_≡_, refl}
 use mathlib.Core.Bool.{not}
 use mathlib.Core.List.{List, [], _∷_, _++_}
