@@ -1,17 +1,16 @@
 -- A circuit that is written is read again as it was: the reading of an export is the circuit.
-use Prim.Native.Nat.{ℕ, zero, suc, _+_, _-_, _*_, _^_, _<_, _≤_}
+use Prim.Native.Nat.{ℕ, suc, _*_, _^_, _<_, _≤_}
 use mathlib.Core.Path.{_≡_, refl, sym, ap, ap₂, _∙_}
-use mathlib.Core.Bool.{Bool, true, false, not, _&&_, _||_}
+use mathlib.Core.Bool.{true, false, not, _&&_}
 use mathlib.Core.List.{List, [], _∷_, _++_, map}
 use native.Mathlib.Omega.{arith}
 use lib.ListN.{length, length-map}
-use lib.Dec.{eqb, leb, ltb}
+use lib.Dec.{eqb}
 use borrow.Author.Tests.{le-leb, eqb-true, not-false}
-use Rattle.basics.specs.Choice.{choice}
 use Rattle.basics.specs.Lists.{upFrom, keep, each, some, All}
-use Rattle.basics.proofs.Tests.{and-true, choice-true, choice-false, or-neither}
+use Rattle.basics.proofs.Tests.{and-true, choice-true, choice-false}
 use Rattle.basics.proofs.Lists.{all-upFrom, length-upFrom}
-use Rattle.basics.proofs.All.{all-map, all-append, all-over}
+use Rattle.basics.proofs.All.{all-map, all-append}
 use Rattle.refusals.specs.Tables.{firstOf}
 use Rattle.refusals.specs.Checks.{fine}
 use Rattle.refusals.proofs.Tables.{fine-row}
@@ -19,23 +18,22 @@ use Rattle.refusals.proofs.Places.{none-bad}
 use Rattle.words.specs.Word.{bit, linesOn}
 use Rattle.words.proofs.LineLists.{all-lines}
 use Rattle.circuit.specs.Gates.{gatesOf}
-use Rattle.circuit.specs.Controls.{isControl}
 use Rattle.circuit.specs.Rules.{badLines, badCounts, badGate, firstBadGate, circuitSetRows, circuitRows}
-use Rattle.circuit.specs.Sound.{GateOk, Sound}
+use Rattle.circuit.specs.Sound.{GateOk}
 use Rattle.circuit.specs.declared.Gate.{Gate}
 use Rattle.circuit.proofs.RuleLaws.{sound}
 use Rattle.circuit.proofs.WordLaws.{good-spare}
-use Rattle.text.specs.Texts.{ascii, every, begins, same, among, distinct, place}
-use Rattle.text_words.specs.Words.{wordsOf, linesOf}
-use Rattle.text.specs.Decimal.{decimal, isNumber}
+use Rattle.text.specs.Texts.{ascii, every, begins, same, distinct, place}
+use Rattle.text_words.specs.Words.{linesOf}
+use Rattle.text.specs.Decimal.{decimal}
 use Rattle.text.proofs.SameLaws.{same-refl}
 use Rattle.text.proofs.DecimalLaws.{number-of, decimal-some}
-use Rattle.real.specs.Form.{Word, Stage, Step, isName, isGate, isOther, isPlain, isLetter, gateDue, optionalParts, controlsOf, targetOf, maskOf, gateOf, next, stepWith, stepOf}
+use Rattle.real.specs.Form.{Word, Stage, Step, isGate, isOther, isLetter, gateDue, optionalParts, maskOf, gateOf, next, stepWith, stepOf}
 use Rattle.real.specs.Form.Stage.{start, versioned, counted, named, begun, done}
-use Rattle.real.specs.Form.Step.{goes, adds, stops}
-use Rattle.real.specs.Reading.{Reading, withGate, onward, atEnd, readFrom, reading}
-use Rattle.real.specs.Reading.Reading.{circuit, faulty}
-use Rattle.real.specs.Export.{nameOf, gateLine, headLines, joined, lineText, realText}
+use Rattle.real.specs.Form.Step.{goes, adds}
+use Rattle.real.specs.Reading.{withGate, onward, readFrom, reading}
+use Rattle.real.specs.Reading.Reading.{circuit}
+use Rattle.real.specs.Export.{nameOf, gateLine, headLines, joined, realText}
 use Rattle.real.proofs.JoinLaws.{visible, Visible, joined-words, joined-plain, joined-lines}
 use Rattle.real.proofs.NameLaws.{visible-decimal, all-visible, all-names, all-declared, distinct-rising, rising-up, rising-keep, place-of}
 use Rattle.real.proofs.MaskLaws.{mask-of, length-snoc, controls-of, target-of}

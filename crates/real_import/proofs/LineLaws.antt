@@ -1,5 +1,5 @@
 -- Laws of the lines after .begin: what one leads to, and what is read of them all.
-use Prim.Native.Nat.{ℕ, suc, _+_, _*_, _≤_, _<_}
+use Prim.Native.Nat.{ℕ, _+_, _≤_}
 use mathlib.Core.Path.{_≡_, refl, sym, ap, _∙_}
 use mathlib.Core.List.{List, [], _∷_, _++_, append-nil, append-assoc}
 use native.Mathlib.Omega.{arith}
@@ -9,7 +9,7 @@ use Rattle.circuit.specs.Limits.{mostLines}
 use Rattle.text_words.specs.Words.{linesOf}
 use Rattle.text_words.specs.Runs.{part, LineAt}
 use Rattle.real.specs.Form.{Word, Stage, stepOf}
-use Rattle.real.specs.Form.Stage.{begun, done}
+use Rattle.real.specs.Form.Stage.{begun}
 use Rattle.real.specs.Form.Step.{goes, adds, stops}
 use Rattle.real.specs.Reading.{Reading, withGate, onward, atEnd, readFrom}
 use Rattle.real.specs.Reading.Reading.{circuit, faulty}

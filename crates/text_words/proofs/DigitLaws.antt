@@ -1,5 +1,5 @@
 -- Laws of a text that is compared with a number in decimal, from its last digit on.
-use Prim.Native.Nat.{ℕ, zero, suc, _+_, _-_, _/_, _%_, _<_, _≤_}
+use Prim.Native.Nat.{ℕ, suc, _+_, _-_, _/_, _%_, _<_, _≤_}
 use mathlib.Core.Path.{_≡_, refl, sym, ap, _∙_}
 use mathlib.Core.Bool.{Bool, true, false, _&&_}
 use mathlib.Core.List.{List, [], _∷_, _++_}
@@ -63,7 +63,7 @@ module _ (t : List ℕ) (end x : ℕ) (fits : end ≤ length t) where
   pub digits-left : x < 10 → (end ≡ 1 → ⊥) → same (take end t) (decimal x) ≡ false
   digits-left h d = rw (decimal-small x h) (same-lengths (take end t) (digit x ∷ []) (λ g. let w = length-take-le end t fits in d (omega arith)))
 
-  pub digits-last : x < 10 → end ≡ 1 → same (take end t) (decimal x) ≡ eqb (getD t 0 0) (48 + x)
+  pub digits-last : x < 10 → end ≡ 1 → same (take end t) (decimal x) ≡ eqb (getD t (end - 1) 0) (48 + x)
   unfolding same digit
   digits-last h e = rw (decimal-small x h, e, take-suc t 0 0 (omega arith)) (and-one (eqb (getD t 0 0) (48 + x)))
     where

@@ -1,23 +1,21 @@
 -- Laws of places among texts: texts are distinct where each stands at its own place.
-use Prim.Native.Nat.{ℕ, zero, suc, _+_, _-_, _<_, _≤_}
-use mathlib.Core.Path.{_≡_, refl, sym, ap, _∙_, subst}
-use mathlib.Core.Bool.{Bool, true, false, not, _&&_, _||_}
-use mathlib.Core.List.{List, [], _∷_, _++_}
+use Prim.Native.Nat.{ℕ, zero, suc, _+_, _<_, _≤_}
+use mathlib.Core.Path.{_≡_, refl, sym, ap, _∙_}
+use mathlib.Core.Bool.{Bool, true, false, not, _&&_}
+use mathlib.Core.List.{List, [], _∷_}
 use native.Mathlib.Omega.{arith}
 use native.Mathlib.Numerals.{add-one}
 use lib.ListN.{length, take, drop, getD}
 use lib.Seq.{drop-cons, length-take-le, getD-take}
-use lib.Dec.{eqb, ltb}
 use mathlib.Core.Logic.{by-cases}
 use native.Mathlib.Decide.{decLt}
-use borrow.Author.Tests.{lt-ltb, le-ltb}
 use Rattle.basics.specs.Lists.{some}
 use Rattle.basics.proofs.Tests.{by-test, and-true, or-false, or-left, or-right}
 use Rattle.text.specs.Texts.{same, among, distinct, place}
 use Rattle.text_words.specs.Words.{wordsOf}
 use Rattle.text_words.specs.Runs.{part, WordAt}
 use Rattle.text_words.proofs.RunLaws.{words-none, words-some}
-use Rattle.text.proofs.SameLaws.{same-refl, same-true, place-found, place-passed, place-none}
+use Rattle.text.proofs.SameLaws.{same-refl, place-found, place-passed, place-none}
 
 -- a text of the list is found at its place or before
 pub place-le : (us : List (List ℕ)) (i : ℕ) → i < length us → place us (getD us i []) ≤ i

@@ -41,8 +41,7 @@ module _ (c : tie.After-enum-told) where
       let a = s .args in
       let words = s .pre .1 .0 in
       let h = s .pre .1 .1 in
-      let e = passed words h in
-      (
+      let e = passed words h in (
         lines-fit (a .lines) (a .count) (length (a .gates .now)) (a .own .now) words h e (s .pre .0),
         gates-fit (a .lines) (a .count) (length (a .gates .now)) (a .own .now) words h e (s .pre .0),
         room-fits (a .lines) (a .count) (length (a .gates .now)) (a .own .now) words h e (s .pre .0),

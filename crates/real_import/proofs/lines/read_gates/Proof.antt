@@ -1,6 +1,6 @@
 -- `real_import::lines::read_gates` meets its contract: each turn reads one line, and what the lines before add is held. Assumes nothing.
 use Prim.Native.Nat.{ℕ, _-_}
-use mathlib.Core.Path.{_≡_, refl, sym, ap, subst, _∙_}
+use mathlib.Core.Path.{_≡_, refl, subst, _∙_}
 use mathlib.Core.List.{List}
 use native.Mathlib.Omega.{arith}
 use lib.ListN.{length}
@@ -103,11 +103,10 @@ loop-again : tie.Need-loop-again Inv-loop μ-loop
 loop-again c =
     let n = c .before .before .before .before .before in
     let l = looped n in
-    let s = entry l in
-    (
+    let s = entry l in (
       n .line-turn .kept .1 .1 .1 .1 .1 .1 .0 ∙ l .loop .inv .0,
       reads-more (names s) (s .args .text .now) (s .args .first) (s .args .line) (l .loop .at) (l .loop .here) (l .loop .due) (l .loop .own) (l .loop .inv .1) _ _
-      (n .before .before .before .next-line .ensures) _ _ (turned n _ (c .before .then .given .1)),
+          (n .before .before .before .next-line .ensures) _ _ (turned n _ (c .before .then .given .1)),
     )
 
 enum-known-due : tie.Need-enum-known-due Inv-loop μ-loop
