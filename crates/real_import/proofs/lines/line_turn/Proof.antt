@@ -10,9 +10,9 @@ use borrow.Author.Tests.{eq-eqb}
 use Rattle.text_words.specs.Words.{wordsOf}
 use Rattle.text_words.specs.Runs.{part}
 use Rattle.text_words.proofs.RunLaws.{words-none, words-some}
+use Rattle.text_words.proofs.PartLaws.{begins-part}
 use Rattle.real.specs.Form.{Word, stepOf}
 use Rattle.real.proofs.StepLaws.{step-blank, step-comment}
-use Rattle.real_head.proofs.LineLaws.{begins-part}
 use Rattle.real_import.specs.Lines.{stageOf, gatesSoFar, Counts}
 use Rattle.real_import.proofs.GateLaws.{line-after}
 use Rattle.real_import.proofs.LineLaws.{leads-on}
