@@ -75,7 +75,8 @@ first-word (b ∷ w) rest v e = word-first b w rest (every-imp visible isInk vis
 words-tail : (ws : List Word) → All Visible ws → wordsOf (tail-of ws) ≡ ws
 unfolding tail-of each ascii wordsOf isBlank every
 words-tail [] h = refl
-words-tail (w ∷ ws) h = blanks-first (32 ∷ []) (w ++ tail-of ws) refl ∙ first-word w (tail-of ws) (h .0) (tail-ends ws) ∙ ap (λ t. w ∷ t) (words-tail ws (h .1))
+words-tail (w ∷ ws) h = blanks-first (32 ∷ []) (w ++ tail-of ws) refl ∙ first-word w (tail-of ws) (h .0) (tail-ends ws) ∙ ap (λ t. w ∷ t)
+    (words-tail ws (h .1))
 
 pub joined-words : (w : Word) (ws : List Word) → All Visible (w ∷ ws) → wordsOf (joined (w ∷ ws)) ≡ w ∷ ws
 unfolding joined tail-of

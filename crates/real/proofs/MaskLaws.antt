@@ -43,7 +43,8 @@ unfolding keep upFrom bit powers
 on-digits w a zero = rw (mod-one (w / 2 ^ a)) (omega arith)
 on-digits w a (suc k) =
     one-more (w / 2 ^ a % 2) a (keep (λ j. eqb (w / 2 ^ j % 2) 1) (upFrom (suc a) k)) (mod-lt (w / 2 ^ a) (omega arith))
-    ∙ rw (on-digits w (suc a) k, low-digit (w / 2 ^ a) k, half-on w a) (spread (2 ^ a) (w / 2 ^ a % 2) (w / 2 ^ suc a % 2 ^ k) (2 ^ suc a) (omega arith))
+    ∙ rw (on-digits w (suc a) k, low-digit (w / 2 ^ a) k, half-on w a)
+    (spread (2 ^ a) (w / 2 ^ a % 2) (w / 2 ^ suc a % 2 ^ k) (2 ^ suc a) (omega arith))
   where
     spread : (p b r q : ℕ) → q ≡ 2 * p → b * p + q * r ≡ p * (b + 2 * r)
     spread p b r q e = rw e (omega arith)

@@ -110,7 +110,8 @@ head-read : (n : ℕ) (rest : List (List ℕ)) → n ≤ 32 → readFrom 1 start
 unfolding headLines begins ascii
 head-read n rest h =
     read-line 1 start (ascii ".version") (ascii "1.0" ∷ []) (v-version, (v-one, tt)) refl refl (goes versioned) next-version _
-    ∙ read-line 2 versioned (ascii ".numvars") (decimal n ∷ []) (v-numvars, (v-decimal n, tt)) refl refl (goes (counted (decimal n))) (next-numvars n) _
+    ∙ read-line 2 versioned (ascii ".numvars") (decimal n ∷ []) (v-numvars, (v-decimal n, tt)) refl refl (goes (counted (decimal n)))
+    (next-numvars n) _
     ∙ read-line 3 (counted (decimal n)) (ascii ".variables") (names n) (v-variables, all-visible (upFrom 0 n)) refl refl
     (goes (named (names n) optionalParts)) (next-variables n h) _
     ∙ read-line 4 (named (names n) optionalParts) (ascii ".begin") [] (v-begin, tt) refl refl (goes (begun (names n))) (next-begin n) rest
@@ -130,16 +131,19 @@ module _ (n : ℕ) (g : Gate) (in-lines : g .controls < 2 ^ n) (on-line : g .tar
 
   rising : distinct (map nameOf (linesOn n (g .controls))) ≡ true
   unfolding linesOn
-  rising = distinct-rising (keep (λ j. eqb (bit (g .controls) j) 1) (upFrom 0 n)) (rising-keep (λ j. eqb (bit (g .controls) j) 1) (upFrom 0 n) (rising-up 0 n))
+  rising = distinct-rising (keep (λ j. eqb (bit (g .controls) j) 1) (upFrom 0 n))
+      (rising-keep (λ j. eqb (bit (g .controls) j) 1) (upFrom 0 n) (rising-up 0 n))
 
   is-gate : isGate (names n) (token n g) (map nameOf (linesOn n (g .controls) ++ (g .target ∷ []))) ≡ true
   unfolding isGate
   is-gate =
       let l = length-snoc (linesOn n (g .controls)) (g .target) in
       and-true
-      (and-true (le-leb 1 (length (map nameOf (linesOn n (g .controls) ++ (g .target ∷ [])))) (omega arith)) (ap (λ k. same (token n g) (ascii "t" ++ decimal k)) l ∙ same-refl (token n g)))
+      (and-true (le-leb 1 (length (map nameOf (linesOn n (g .controls) ++ (g .target ∷ [])))) (omega arith))
+      (ap (λ k. same (token n g) (ascii "t" ++ decimal k)) l ∙ same-refl (token n g)))
       (and-true
-      (all-declared n (linesOn n (g .controls) ++ (g .target ∷ [])) (all-append (λ j. j < n) (linesOn n (g .controls)) (g .target ∷ []) lines-in (on-line, tt)))
+      (all-declared n (linesOn n (g .controls) ++ (g .target ∷ []))
+      (all-append (λ j. j < n) (linesOn n (g .controls)) (g .target ∷ []) lines-in (on-line, tt)))
       (ap distinct (controls-of (linesOn n (g .controls)) (g .target)) ∙ rising))
 
   gate-of : gateOf (names n) (map nameOf (linesOn n (g .controls) ++ (g .target ∷ []))) ≡ flat g
@@ -185,15 +189,24 @@ visible-gates n (g ∷ gs) = (visible-gate n g, visible-gates n gs)
 
 visible-lines : (n : ℕ) (words : List ℕ) → All (All Visible) (allLines n words)
 unfolding headLines
-visible-lines n words =
-    ((v-version, (v-one, tt)), ((v-numvars, (v-decimal n, tt)), ((v-variables, all-visible (upFrom 0 n)), ((v-begin, tt), visible-gates n (gatesOf words)))))
+visible-lines n words = (
+  (v-version, (v-one, tt)),
+  (
+    (v-numvars, (v-decimal n, tt)),
+    (
+      (v-variables, all-visible (upFrom 0 n)),
+      ((v-begin, tt), visible-gates n (gatesOf words)),
+    ),
+  ),
+)
 
 -- the text's lines are the lines of its words
 pub text-lines : (n : ℕ) (words : List ℕ) → linesOf (realText n words) ≡ map joined (allLines n words)
 unfolding realText
 text-lines n words = joined-lines (allLines n words) (visible-lines n words)
 
-pub text-read : (n : ℕ) (words : List ℕ) → n ≤ 32 → All (OnLines n) (gatesOf words) → reading (realText n words) ≡ circuit n (each flat (gatesOf words))
+pub text-read : (n : ℕ) (words : List ℕ) → n ≤ 32 → All (OnLines n) (gatesOf words)
+    → reading (realText n words) ≡ circuit n (each flat (gatesOf words))
 unfolding reading headLines
 text-read n words h ok =
     ap (readFrom 1 start) (text-lines n words)
@@ -201,7 +214,8 @@ text-read n words h ok =
     ∙ gates-read n 5 (gatesOf words) ok
 
 -- words of whole gates with nothing in their spare words
-flat-words : (words : List ℕ) → length words ≡ 3 * length (gatesOf words) → All (λ g. g .spare ≡ 0) (gatesOf words) → each flat (gatesOf words) ≡ words
+flat-words : (words : List ℕ) → length words ≡ 3 * length (gatesOf words) → All (λ g. g .spare ≡ 0) (gatesOf words)
+    → each flat (gatesOf words) ≡ words
 unfolding each gatesOf
 flat-words [] w h = refl
 flat-words (c ∷ []) w h = absurd (omega arith)

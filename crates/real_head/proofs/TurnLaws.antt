@@ -69,7 +69,8 @@ part-stands text at to h k =
     let e : at + length (part text at to) ≡ to = omega arith in
     record { fits = omega arith; same = ap (part text at) (sym e) }
 
-pub rest-stands : (text line : List ℕ) (at end : ℕ) → StandsAt text line at → end ≤ length line → StandsAt text (part line end (length line)) (at + end)
+pub rest-stands : (text line : List ℕ) (at end : ℕ) → StandsAt text line at → end ≤ length line
+    → StandsAt text (part line end (length line)) (at + end)
 rest-stands text line at end s h =
     let l = part-length line end (length line) h (omega arith) in
     let f = s .fits in

@@ -31,7 +31,8 @@ with-both words more (faulty number line) = refl
 -- ---- one line
 
 module _ (names : List Word) (line own : List ℕ) where
-  pub leads-on : (d then : Due) → gatesSoFar then ≡ gatesSoFar d → stepOf (stageOf names d) line ≡ goes (stageOf names then) → Leads names d line own then own
+  pub leads-on : (d then : Due) → gatesSoFar then ≡ gatesSoFar d → stepOf (stageOf names d) line ≡ goes (stageOf names then)
+      → Leads names d line own then own
   leads-on d then same e = record {
     words = [];
     step = λ at rest. ap (λ s. onward at s rest) e ∙ sym (with-none (rest (stageOf names then)));
@@ -80,7 +81,8 @@ module _ (names : List Word) (text : List ℕ) (first line : ℕ) where
       unfolding readFrom
       one-line =
           ap (readFrom here (stageOf names d)) (l .split)
-          ∙ ap (λ after. onward here (stepOf (stageOf names d) (part text at to)) (λ s. readFrom after s (linesOf (drop next text)))) (sym (add-one here))
+          ∙ ap (λ after. onward here (stepOf (stageOf names d) (part text at to)) (λ s. readFrom after s (linesOf (drop next text))))
+          (sym (add-one here))
 
       pub reads-more : (then : Due) (last : List ℕ) → Leads names d (part text at to) own then last
           → Reads names text first line next (here + 1) then last

@@ -83,7 +83,8 @@ word-at line at from to blanks ink = record {
   fits = ink .fits;
   split = ap wordsOf (parted line at from (blanks .start)) ∙ blanks-first (part line at from) (drop from line) (blanks .all)
       ∙ by-equal from to
-      (λ e. ap wordsOf (no-word line at from blanks (subst (λ (t : ℕ). RunTo isInk line from t) (sym e) ink)) ∙ sym (choice-true (eq-eqb from to e) _ _))
+      (λ e. ap wordsOf (no-word line at from blanks (subst (λ (t : ℕ). RunTo isInk line from t) (sym e) ink)) ∙ sym
+      (choice-true (eq-eqb from to e) _ _))
       (λ d. a-word line from to ink (omega arith) ∙ sym (choice-false (ne-eqb from to d) _ _));
 }
 

@@ -30,7 +30,11 @@ returns-2 : tie.Need-returns-2 Inv-loop μ-loop
 returns-2 c =
     let l = c .before .before .before .loop in
     let a = c .before .before .before .before .before .args in
-    rw (eq-eqb (length (a .word .now)) (a .number) (l .inv .0), l .inv .1 .1 ∙ all-failed (eqb 45) (a .word .now) (l .i) (omega arith) (ne-eqb 45 (getD (a .word .now) (l .i) 0) (λ e. c .if2 .taken (sym e))))
+    rw (
+      eq-eqb (length (a .word .now)) (a .number) (l .inv .0),
+      l .inv .1 .1 ∙ all-failed (eqb 45) (a .word .now) (l .i) (omega arith)
+          (ne-eqb 45 (getD (a .word .now) (l .i) 0) (λ e. c .if2 .taken (sym e))),
+    )
 
 add-i : tie.Need-add-i Inv-loop μ-loop
 add-i c = omega arith
@@ -41,8 +45,14 @@ loop-less c = omega arith
 loop-again : tie.Need-loop-again Inv-loop μ-loop
 loop-again c =
     let l = c .before .before .before .loop in
-    let a = c .before .before .before .before .before .args in
-    (l .inv .0, (omega arith, l .inv .1 .1 ∙ all-passed (eqb 45) (a .word .now) (l .i) (omega arith) (eq-eqb 45 (getD (a .word .now) (l .i) 0) (sym (c .if2 .left)))))
+    let a = c .before .before .before .before .before .args in (
+      l .inv .0,
+      (
+        omega arith,
+        l .inv .1 .1 ∙ all-passed (eqb 45) (a .word .now) (l .i) (omega arith)
+            (eq-eqb 45 (getD (a .word .now) (l .i) 0) (sym (c .if2 .left))),
+      ),
+    )
 
 returns-3 : tie.Need-returns-3 Inv-loop μ-loop
 returns-3 c =

@@ -66,7 +66,8 @@ returns-2 c =
     let a = c .before .before .before .before .before .before .before .args in
     let n = c .before .before .before .before .next-word in
     let w = n .ensures in
-    sym (l .inv .1 ∙ ap (every isName) (words-some (a .line .now) (l .at) _ _ w (c .before .before .before .if1 .left)) ∙ every-failed isName _ _ (sym (c .before .is-name .ensures) ∙ not-true _ (c .if2 .taken)))
+    sym (l .inv .1 ∙ ap (every isName) (words-some (a .line .now) (l .at) _ _ w (c .before .before .before .if1 .left)) ∙ every-failed isName _ _
+    (sym (c .before .is-name .ensures) ∙ not-true _ (c .if2 .taken)))
 
 loop-less : tie.Need-loop-less Inv-loop μ-loop
 loop-less c =
@@ -81,8 +82,11 @@ loop-again c =
     let l = c .before .before .before .before .before .loop in
     let a = c .before .before .before .before .before .before .before .args in
     let n = c .before .before .before .before .next-word in
-    let w = n .ensures in
-    (omega arith, l .inv .1 ∙ ap (every isName) (words-some (a .line .now) (l .at) _ _ w (c .before .before .before .if1 .left)) ∙ every-passed isName _ _ (sym (c .before .is-name .ensures) ∙ not-false _ (c .if2 .left)))
+    let w = n .ensures in (
+      omega arith,
+      l .inv .1 ∙ ap (every isName) (words-some (a .line .now) (l .at) _ _ w (c .before .before .before .if1 .left))
+          ∙ every-passed isName _ _ (sym (c .before .is-name .ensures) ∙ not-false _ (c .if2 .left)),
+    )
 
 pub all-names-spec : {M : Type 1} → statement M
 all-names-spec =

@@ -24,7 +24,8 @@ count-words-requires c κs = search needs
 returns-2 : tie.Need-returns-2
 returns-2 c =
     let a = c .before .before .before .before .before .before .args in
-    ap (λ k. eqb k 0) (c .count-words .ensures) ∙ sym (ap (λ b. b && eqb (length (wordsOf (a .rest .now))) 0) (sym (c .before .before .same .ensures) ∙ not-false _ (c .before .if1 .left)))
+    ap (λ k. eqb k 0) (c .count-words .ensures) ∙ sym
+    (ap (λ b. b && eqb (length (wordsOf (a .rest .now))) 0) (sym (c .before .before .same .ensures) ∙ not-false _ (c .before .if1 .left)))
 
 pub alone-spec : {M : Type 1} → statement M
 alone-spec = tie.close (tie.spec same-requires returns count-words-requires returns-2)

@@ -43,8 +43,11 @@ loop-less c = omega arith
 loop-again : tie.Need-loop-again Inv-loop μ-loop
 loop-again c =
     let l = c .before .before .before .before .loop in
-    let a = c .before .before .before .before .before .before .args in
-    (omega arith, l .inv .1 ∙ all-passed isNameByte (a .word .now) (l .i) (omega arith) (sym (c .before .is-name-byte .ensures) ∙ not-false _ (c .if1 .left)))
+    let a = c .before .before .before .before .before .before .args in (
+      omega arith,
+      l .inv .1 ∙ all-passed isNameByte (a .word .now) (l .i) (omega arith)
+          (sym (c .before .is-name-byte .ensures) ∙ not-false _ (c .if1 .left)),
+    )
 
 returns-2 : tie.Need-returns-2 Inv-loop μ-loop
 unfolding isName

@@ -14,10 +14,18 @@ is-digit-requires : tie.Need-is-digit-requires
 is-digit-requires c κs = search needs
 
 returns-2 : tie.Need-returns-2
-returns-2 c = rw (sym (c .before .before .before .is-letter .ensures) ∙ c .before .before .if1 .left, sym (c .before .is-digit .ensures) ∙ c .if2 .taken)
+returns-2 c = rw (
+  sym (c .before .before .before .is-letter .ensures) ∙ c .before .before .if1 .left,
+  sym (c .before .is-digit .ensures)
+      ∙ c .if2 .taken,
+)
 
 returns-3 : tie.Need-returns-3
-returns-3 c = rw (sym (c .before .before .before .is-letter .ensures) ∙ c .before .before .if1 .left, sym (c .before .is-digit .ensures) ∙ c .if2 .left)
+returns-3 c = rw (
+  sym (c .before .before .before .is-letter .ensures) ∙ c .before .before .if1 .left,
+  sym (c .before .is-digit .ensures)
+      ∙ c .if2 .left,
+)
 
 pub is-name-byte-spec : {M : Type 1} → statement M
 is-name-byte-spec =

@@ -147,7 +147,8 @@ returns-4 c =
     let s = start (t .before .before) in (
       refl,
       none (t .before)
-          (no-token (names s) (word s) (wordsOf (rest s)) (token-unread (word s) (wordsOf (rest s)) (sym (c .enum-told .given .1) ∙ t .token-of .ensures))),
+          (no-token (names s) (word s) (wordsOf (rest s))
+          (token-unread (word s) (wordsOf (rest s)) (sym (c .enum-told .given .1) ∙ t .token-of .ensures))),
     )
 
 gate-of-requires : tie.Need-gate-of-requires
@@ -170,7 +171,8 @@ returns-5 c =
     let s = start (t .before .before) in (
       refl,
       none (t .before)
-          (no-gate (names s) (word s) (wordsOf (rest s)) (token (g .before) .0) (subst (GateRead (names s) (wordsOf (rest s))) (c .enum-told2 .given .1) (g .gate-of .ensures))),
+          (no-gate (names s) (word s) (wordsOf (rest s)) (token (g .before) .0)
+          (subst (GateRead (names s) (wordsOf (rest s))) (c .enum-told2 .given .1) (g .gate-of .ensures))),
     )
 
 hold-requires : tie.Need-hold-requires

@@ -38,7 +38,8 @@ loop-again : tie.Need-loop-again Inv-loop μ-loop
 loop-again c =
     let l = c .before .before .before in
     let a = l .before .args in
-    run-more inLine (a .text .now) (a .at) (l .loop .i) (l .loop .inv) (omega arith) (ap not (ne-eqb (getD (a .text .now) (l .loop .i) 0) 10 (c .if1 .left)))
+    run-more inLine (a .text .now) (a .at) (l .loop .i) (l .loop .inv) (omega arith)
+    (ap not (ne-eqb (getD (a .text .now) (l .loop .i) 0) 10 (c .if1 .left)))
 
 returns-2 : tie.Need-returns-2 Inv-loop μ-loop
 returns-2 c = let l = c .before in let a = l .before .args in run-ends inLine (a .text .now) (a .at) (l .loop .i) (l .loop .inv) (omega arith)

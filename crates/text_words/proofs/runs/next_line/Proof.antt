@@ -21,7 +21,8 @@ returns-2 : tie.Need-returns-2
 returns-2 c =
     let r = c .before .before in
     let a = r .before .before .args in
-    line-at-lf (a .text .now) (a .at) _ (r .line-feed .ensures) (omega arith) (line-bare (a .text .now) (a .at) _ (r .line-feed .ensures) (sym (c .if2 .taken)))
+    line-at-lf (a .text .now) (a .at) _ (r .line-feed .ensures) (omega arith)
+    (line-bare (a .text .now) (a .at) _ (r .line-feed .ensures) (sym (c .if2 .taken)))
 
 sub-if3 : tie.Need-sub-if3
 sub-if3 c = search needs
@@ -48,7 +49,8 @@ returns-4 : tie.Need-returns-4
 returns-4 c =
     let r = c .before .before .before .before in
     let a = r .before .before .args in
-    line-at-lf (a .text .now) (a .at) _ (r .line-feed .ensures) (omega arith) (line-plain (a .text .now) (a .at) _ (r .line-feed .ensures) (omega arith) (c .if3 .left))
+    line-at-lf (a .text .now) (a .at) _ (r .line-feed .ensures) (omega arith)
+    (line-plain (a .text .now) (a .at) _ (r .line-feed .ensures) (omega arith) (c .if3 .left))
 
 pub next-line-spec : {M : Type 1} → statement M
 next-line-spec =

@@ -41,7 +41,8 @@ loop-again : tie.Need-loop-again Inv-loop μ-loop
 loop-again c =
     let l = c .before .before .before .before in
     let a = l .before .before .args in
-    run-more isBlank (a .text .now) (a .at) (l .loop .i) (l .loop .inv) (omega arith) (sym (c .before .is-blank .ensures) ∙ not-false _ (c .if1 .left))
+    run-more isBlank (a .text .now) (a .at) (l .loop .i) (l .loop .inv) (omega arith)
+    (sym (c .before .is-blank .ensures) ∙ not-false _ (c .if1 .left))
 
 returns-2 : tie.Need-returns-2 Inv-loop μ-loop
 returns-2 c =

@@ -13,7 +13,9 @@ use Rattle.text_words.proofs.same.distinct.Statement.{statement}
 use Rattle.text_words.proofs.same.distinct.Tie as tie
 
 abbrev Inv-loop : tie.InvT-loop
-Inv-loop line words at₀ count₀ at count = (at ≤ length line) × ((count ≤ words) × ((wordsOf (drop at line) ≡ drop count (wordsOf line)) × ((i : ℕ) → i < count → place (wordsOf line) (getD (wordsOf line) i []) ≡ i)))
+Inv-loop line words at₀ count₀ at count = (at ≤ length line)
+    × ((count ≤ words) × ((wordsOf (drop at line) ≡ drop count (wordsOf line))
+    × ((i : ℕ) → i < count → place (wordsOf line) (getD (wordsOf line) i []) ≡ i)))
 
 abbrev μ-loop : tie.MeasureT-loop
 μ-loop line words at₀ count₀ at count = words - count
@@ -58,7 +60,8 @@ returns c =
     let l = s .before .before in
     let a = l .before .before .args in
     let w = listed (a .line .now) (l .loop .at) _ _ (l .loop .count) n (l .loop .inv .1 .1 .0) (omega arith) in
-    sym (firsts-twice (a .words) (wordsOf (a .line .now)) (l .before .before .pre) (l .loop .count) (omega arith) (λ e. c .if1 .taken (c .before .place .ensures ∙ ap (place (wordsOf (a .line .now))) (w .word) ∙ e)))
+    sym (firsts-twice (a .words) (wordsOf (a .line .now)) (l .before .before .pre) (l .loop .count) (omega arith)
+    (λ e. c .if1 .taken (c .before .place .ensures ∙ ap (place (wordsOf (a .line .now))) (w .word) ∙ e)))
 
 add-count : tie.Need-add-count Inv-loop μ-loop
 add-count c = omega arith
@@ -72,8 +75,17 @@ loop-again c =
     let n = s .next-word .ensures in
     let l = s .before .before in
     let a = l .before .before .args in
-    let w = listed (a .line .now) (l .loop .at) _ _ (l .loop .count) n (l .loop .inv .1 .1 .0) (omega arith) in
-    (omega arith, (omega arith, (w .rest, below-more _ _ (l .loop .inv .1 .1 .1) (sym (ap (place (wordsOf (a .line .now))) (w .word)) ∙ sym (c .before .place .ensures) ∙ c .if1 .left))))
+    let w = listed (a .line .now) (l .loop .at) _ _ (l .loop .count) n (l .loop .inv .1 .1 .0) (omega arith) in (
+      omega arith,
+      (
+        omega arith,
+        (
+          w .rest,
+          below-more _ _ (l .loop .inv .1 .1 .1)
+              (sym (ap (place (wordsOf (a .line .now))) (w .word)) ∙ sym (c .before .place .ensures) ∙ c .if1 .left),
+        ),
+      ),
+    )
 
 returns-2 : tie.Need-returns-2 Inv-loop μ-loop
 returns-2 c =

@@ -43,8 +43,11 @@ loop-less c = omega arith
 loop-again : tie.Need-loop-again Inv-loop μ-loop
 loop-again c =
     let l = c .before .before .before .before in
-    let a = l .before .before .args in
-    (omega arith, l .loop .inv .1 ∙ all-passed isDigit (a .t .now) (l .loop .i) (omega arith) (sym (c .before .is-digit .ensures) ∙ not-false _ (c .if1 .left)))
+    let a = l .before .before .args in (
+      omega arith,
+      l .loop .inv .1 ∙ all-passed isDigit (a .t .now) (l .loop .i) (omega arith)
+          (sym (c .before .is-digit .ensures) ∙ not-false _ (c .if1 .left)),
+    )
 
 shared-slice-read-if2 : tie.Need-shared-slice-read-if2 Inv-loop μ-loop
 shared-slice-read-if2 c = omega arith
@@ -54,14 +57,24 @@ unfolding isNumber
 returns-2 c =
     let l = c .before .before .before in
     let a = l .before .before .args in
-    rw (l .loop .inv .1 ∙ all-ended isDigit (a .t .now) (l .loop .i) (omega arith), begins-first (eqb 48) (a .t .now) (l .before .before .pre), ne-eqb 48 (getD (a .t .now) 0 0) (λ e. c .if2 .taken (sym e)))
+    rw (
+      l .loop .inv .1 ∙ all-ended isDigit (a .t .now) (l .loop .i) (omega arith),
+      begins-first (eqb 48) (a .t .now)
+          (l .before .before .pre),
+      ne-eqb 48 (getD (a .t .now) 0 0) (λ e. c .if2 .taken (sym e)),
+    )
 
 returns-3 : tie.Need-returns-3 Inv-loop μ-loop
 unfolding isNumber
 returns-3 c =
     let l = c .before .before .before in
     let a = l .before .before .args in
-    rw (l .loop .inv .1 ∙ all-ended isDigit (a .t .now) (l .loop .i) (omega arith), begins-first (eqb 48) (a .t .now) (l .before .before .pre), eq-eqb 48 (getD (a .t .now) 0 0) (sym (c .if2 .left)))
+    rw (
+      l .loop .inv .1 ∙ all-ended isDigit (a .t .now) (l .loop .i) (omega arith),
+      begins-first (eqb 48) (a .t .now)
+          (l .before .before .pre),
+      eq-eqb 48 (getD (a .t .now) 0 0) (sym (c .if2 .left)),
+    )
 
 pub is-number-spec : {M : Type 1} → statement M
 is-number-spec =

@@ -12,7 +12,8 @@ use Rattle.text_words.proofs.same.place.Statement.{statement}
 use Rattle.text_words.proofs.same.place.Tie as tie
 
 abbrev Inv-loop : tie.InvT-loop
-Inv-loop line word at₀ count₀ at count = (at ≤ length line) × ((count ≤ at) × (place (wordsOf line) word ≡ count + place (wordsOf (drop at line)) word))
+Inv-loop line word at₀ count₀ at count = (at ≤ length line)
+    × ((count ≤ at) × (place (wordsOf line) word ≡ count + place (wordsOf (drop at line)) word))
 
 abbrev μ-loop : tie.MeasureT-loop
 μ-loop line word at₀ count₀ at count = length line - at
@@ -28,7 +29,8 @@ returns c =
     let n = c .before .next-word in
     let l = c .before .before in
     let a = l .before .before .before .args in
-    let e = ap (λ ws. place ws (a .word .now)) (words-none (a .line .now) (l .loop .at) _ _ (n .ensures) (c .if1 .taken)) ∙ place-none (a .word .now) in
+    let e = ap (λ ws. place ws (a .word .now)) (words-none (a .line .now) (l .loop .at) _ _ (n .ensures) (c .if1 .taken)) ∙ place-none
+    (a .word .now) in
     omega arith
 
 sub-same : tie.Need-sub-same Inv-loop μ-loop
@@ -49,7 +51,8 @@ returns-2 c =
     let n = s .before .next-word in
     let l = s .before .before in
     let a = l .before .before .before .args in
-    let e = ap (λ ws. place ws (a .word .now)) (words-some (a .line .now) (l .loop .at) _ _ (n .ensures) (s .if1 .left)) ∙ place-found _ _ (a .word .now) (sym (c .before .same .ensures) ∙ c .if2 .taken) in
+    let e = ap (λ ws. place ws (a .word .now)) (words-some (a .line .now) (l .loop .at) _ _ (n .ensures) (s .if1 .left)) ∙ place-found _ _
+    (a .word .now) (sym (c .before .same .ensures) ∙ c .if2 .taken) in
     omega arith
 
 add-count : tie.Need-add-count Inv-loop μ-loop
@@ -77,7 +80,8 @@ loop-again c =
     let l = s .before .before in
     let a = l .before .before .before .args in
     let w = n .ensures in
-    let e = ap (λ ws. place ws (a .word .now)) (words-some (a .line .now) (l .loop .at) _ _ w (s .if1 .left)) ∙ place-passed _ _ (a .word .now) (sym (c .before .same .ensures) ∙ c .if2 .left) in
+    let e = ap (λ ws. place ws (a .word .now)) (words-some (a .line .now) (l .loop .at) _ _ w (s .if1 .left)) ∙ place-passed _ _ (a .word .now)
+    (sym (c .before .same .ensures) ∙ c .if2 .left) in
     (omega arith, (omega arith, omega arith))
 
 pub place-spec : {M : Type 1} → statement M

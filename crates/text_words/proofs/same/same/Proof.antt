@@ -41,8 +41,14 @@ loop-less c = omega arith
 loop-again : tie.Need-loop-again Inv-loop μ-loop
 loop-again c =
     let l = c .before .before .before .before in
-    let a = l .before .before .args in
-    (omega arith, (l .loop .inv .1 .0, l .loop .inv .1 .1 ∙ same-more (a .a .now) (a .b .now) (l .loop .i) (omega arith) (omega arith) (c .if2 .left)))
+    let a = l .before .before .args in (
+      omega arith,
+      (
+        l .loop .inv .1 .0,
+        l .loop .inv .1 .1 ∙ same-more (a .a .now) (a .b .now) (l .loop .i) (omega arith) (omega arith)
+            (c .if2 .left),
+      ),
+    )
 
 returns-3 : tie.Need-returns-3 Inv-loop μ-loop
 returns-3 c =
