@@ -2,3 +2,4 @@ pub mod HoldLaws
 pub mod ResultLaws
 pub mod GateLaws
 pub mod LineLaws
+pub mod AnswerLaws
