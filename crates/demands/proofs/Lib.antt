@@ -15,6 +15,7 @@ pub mod Valid
 pub mod ValidRows
 pub mod ValidCalls
 pub mod ValidLists
+pub mod ValidTexts
 pub mod Runs
 pub mod Catching
 pub mod Testing
