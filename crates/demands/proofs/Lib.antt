@@ -44,6 +44,7 @@ pub mod WrongProgramsOfC
 pub mod RuleWords
 pub mod RulesInWords
 pub mod RuleOfSites
+pub mod RulesOfTexts
 pub mod RulesTold
 pub mod RuleTables
 pub mod Rules

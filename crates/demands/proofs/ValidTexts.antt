@@ -1,14 +1,12 @@
 -- What importing and exporting a text take, in the words of docs/SCOPE.md: exactly what breaks no rule of their tables.
 use Prim.Native.Nat.{ℕ, _*_, _≤_}
-use mathlib.Core.Path.{_≡_, refl, sym, ap, _∙_, subst}
+use mathlib.Core.Path.{_≡_, sym, ap, _∙_, subst}
 use mathlib.Core.Logic.{_↔_, Iff·trans}
-use mathlib.Core.Bool.{true, false≢true}
 use mathlib.Core.List.{List, [], _∷_, _++_}
 use native.Mathlib.Omega.{arith}
 use lib.ListN.{length}
-use lib.Dec.{eqb, ltb}
+use lib.Dec.{ltb}
 use borrow.Author.Tests.{ltb-false, le-ltb}
-use Rattle.basics.proofs.Tests.{or-false}
 use Rattle.refusals.specs.Tables.{Row}
 use Rattle.refusals.specs.Tables.Row.{refuse_at_when_}
 use Rattle.refusals.specs.Places.{inWord}
@@ -16,11 +14,11 @@ use Rattle.refusals.proofs.Tables.{fine-row}
 use Rattle.circuit.specs.Rules.{circuitRows}
 use Rattle.circuit.specs.declared.Gate.{Gate}
 use Rattle.real.specs.Export.{realText}
-use Rattle.real.specs.Reading.{Reading, reading}
-use Rattle.real.specs.Reading.Reading.{circuit, faulty}
-use Rattle.real.proofs.NumberLaws.{fifteenOrFourteen, faulty-by}
+use Rattle.real.specs.Reading.{reading}
+use Rattle.real.specs.Reading.Reading.{circuit}
 use Rattle.real_export.specs.Rules.{exportRows}
-use Rattle.real_import.specs.Rules.{readingRows, importRows}
+use Rattle.real_import.specs.Rules.{isRefused, faultyLine, readingRows, importRows}
+use Rattle.real_import.proofs.RuleLaws.{reads}
 use Rattle.demands.proofs.Valid.{Valid, flat-length}
 use Rattle.demands.proofs.ValidRows.{Fine, one-rule}
 use Rattle.demands.proofs.ValidCalls.{with-circuit}
@@ -51,21 +49,15 @@ stored-valid n words room =
       λ v. w .1 (v .0, v .1, omega (arith, three (v .0) (v .1), v .2)),
     )
 
--- a text that breaks neither 15 nor 14 reads as a circuit
-read-fine : (read : Reading) (room : ℕ) → ((k line : ℕ) → read ≡ faulty k line → fifteenOrFourteen k ≡ true) → Fine (readingRows read room)
-    → (n : ℕ) × (words : List ℕ) × (read ≡ circuit n words) × Fine (storedRows n words room)
-read-fine (circuit n words) room known e = (n, words, refl, e)
-read-fine (faulty k line) room known e =
-    let fifteen = fine-row (eqb k 15) 15 (inWord line) _ e in
-    let fourteen = fine-row (eqb k 14) 14 (inWord line) _ (fifteen .1) in
-    absurd (false≢true (sym (or-false (fifteen .0) (fourteen .0)) ∙ known k line refl))
-
 pub import-valid : (text : List ℕ) (room : ℕ) → Fine (importRows text room)
     ↔ ((n : ℕ) × (words : List ℕ) × (reading text ≡ circuit n words) × ((gs : List Gate) × Valid n words gs × (3 * length gs ≤ room)))
 unfolding importRows
 import-valid text room = (
   λ e.
-      let r = read-fine (reading text) room (faulty-by text) e in
-      (r .0, r .1, r .2, stored-valid (r .0) (r .1) room .0 (r .3)),
+      let fifteen = fine-row (isRefused 15 (reading text)) 15 (inWord (faultyLine (reading text))) _ e in
+      let fourteen = fine-row (isRefused 14 (reading text)) 14 (inWord (faultyLine (reading text))) _ (fifteen .1) in
+      let r = reads text (fifteen .0) (fourteen .0) in
+      let stored : Fine (storedRows (r .0) (r .1) room) = rw (r .2) at fourteen .1 in
+      (r .0, r .1, r .2, stored-valid (r .0) (r .1) room .0 stored),
   λ w. subst (λ read. Fine (readingRows read room)) (sym (w .2)) (stored-valid (w .0) (w .1) room .1 (w .3)),
 )

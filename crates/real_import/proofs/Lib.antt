@@ -3,3 +3,4 @@ pub mod ResultLaws
 pub mod GateLaws
 pub mod LineLaws
 pub mod AnswerLaws
+pub mod RuleLaws
