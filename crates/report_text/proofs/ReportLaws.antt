@@ -143,7 +143,8 @@ content-small bytes e =
 
 job-small : (bytes : List ℕ) (k p : ℕ) → refused k p ≡ firstOf (jobRows bytes) fine → (k < 10 ^ 10) × (p < 10 ^ 10)
 unfolding readRows
-job-small bytes k p e = refused-small-on (10 ^ 10) (headerRows bytes) (contentRowsIn bytes ++ room bytes) k p (header-small bytes) (content-small bytes) e
+job-small bytes k p e =
+    refused-small-on (10 ^ 10) (headerRows bytes) (contentRowsIn bytes ++ room bytes) k p (header-small bytes) (content-small bytes) e
 
 text-of-fits : (bytes : List ℕ) (told : Told) → told ≡ firstOf (jobRows bytes) fine
     → length (textOf told (jobText (linesIn bytes) (classesIn bytes) (gateWords bytes) (vectorWords bytes))) ≤ longestReport
