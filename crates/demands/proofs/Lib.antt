@@ -57,3 +57,7 @@ pub mod RealFormLaws
 pub mod RealLines
 pub mod RealStages
 pub mod RealReading
+pub mod RealCalls
+pub mod RealTexts
+pub mod RealTextsOfC
+pub mod WrongTexts
