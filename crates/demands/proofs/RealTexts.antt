@@ -26,15 +26,14 @@ use Rattle.circuit.specs.Rules.{badLines, circuitSetRows, circuitRows}
 use Rattle.circuit.proofs.GateLaws.{gates-count}
 use Rattle.circuit.proofs.RuleLaws.{sound}
 use Rattle.text_words.specs.Words.{linesOf}
-use Rattle.real.specs.Form.Stage.{start}
 use Rattle.real.specs.Reading.{Reading, reading}
 use Rattle.real.specs.Reading.Reading.{circuit, faulty}
 use Rattle.real.specs.Export.{realText}
 use Rattle.real.proofs.RoundTrip.{round-trip}
-use Rattle.real.proofs.FirstFaulty.{Stops, stops-within, first-faulty}
 use Rattle.real_import.specs.Promises.{importTells, importLeaves}
 use Rattle.real_import.specs.Rules.{linesRead, wordsRead, readingRows, importRows}
 use Rattle.real_export.specs.Rules.{exportRows}
+use Rattle.demands.proofs.RulesOfTexts.{Stopped, stopped}
 use Rattle.demands.proofs.RealForm.{OfForm}
 use Rattle.demands.proofs.RealLines.{same-circuit}
 use Rattle.demands.proofs.RealReading.{form-read, no-form}
@@ -159,7 +158,7 @@ text-number k (inr e) z = omega arith
 -- The first faulty line of a text, counted from 1, and the number by which it is refused: every line before it leads on; it is refused, or it is the
 -- one after the last where something is due, and then the number is 14.
 abbrev pub FirstFaulty : List ℕ → ℕ → ℕ → Type 0
-FirstFaulty text k line = Stops 1 start (linesOf text) k line
+FirstFaulty text k line = Stopped text k line
 
 -- no other rule has these numbers
 abbrev Other : ℕ → Row → Type 0
@@ -218,8 +217,8 @@ pub refusal-tells-line : (I : Importer) (i : I .Call) (k p : ℕ) → OfText k
     → Refuses I i k p ↔ ((line : ℕ) × FirstFaulty (I .text i) k line × (p ≡ inWord line))
 unfolding reading
 refusal-tells-line I i k p of-text = (
-  λ done. let w = text-refused I i k p of-text .0 done in (w .0, first-faulty 1 start (linesOf (I .text i)) k (w .0) .0 (w .1), w .2),
-  λ w. text-refused I i k p of-text .1 (w .0, first-faulty 1 start (linesOf (I .text i)) k (w .0) .1 (w .1), w .2),
+  λ done. let w = text-refused I i k p of-text .0 done in (w .0, stopped (I .text i) k (w .0) .0 (w .1), w .2),
+  λ w. text-refused I i k p of-text .1 (w .0, stopped (I .text i) k (w .0) .1 (w .1), w .2),
 )
 
 -- So of a text of fewer than 2 ^ 32 - 1 lines the place is the first faulty line.
@@ -229,11 +228,9 @@ unfolding inWord
 place-is-line I i k line of-text few = (
   λ done.
       let w = refusal-tells-line I i k line of-text .0 done in
-      let within = stops-within (w .1) in
-      let p = w .2 in
-      let same : w .0 ≡ line = omega arith in
+      let same : w .0 ≡ line = omega (arith, w .1 .0, w .1 .1 .within, w .2) in
       subst (FirstFaulty (I .text i) k) same (w .1),
-  λ first. let within = stops-within first in refusal-tells-line I i k line of-text .1 (line, first, omega arith),
+  λ first. refusal-tells-line I i k line of-text .1 (line, first, omega (arith, first .0, first .1 .within)),
 )
 
 -- A refusal 14 or 15 is told exactly if the text says no circuit, by the grammar of `RealForm`.

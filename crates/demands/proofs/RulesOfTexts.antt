@@ -185,10 +185,10 @@ ends-by due k at e = (sym (same-number 14 k at at (sym (still-due due due-is at)
     due-is names done-is = let z : _≡_ {A = ℕ} 0 1 = cc in omega arith
 
 module _ (text : List ℕ) where
-  abbrev Stopped : ℕ → ℕ → Type 0
+  abbrev pub Stopped : ℕ → ℕ → Type 0
   Stopped k q = (1 ≤ q) × Stops start (linesOf text) k (q - 1)
 
-  stopped : (k q : ℕ) → (reading text ≡ faulty k q) ↔ Stopped k q
+  pub stopped : (k q : ℕ) → (reading text ≡ faulty k q) ↔ Stopped k q
   unfolding reading
   stopped k q = (
     λ e.
