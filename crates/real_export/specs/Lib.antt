@@ -1,0 +1,4 @@
+pub mod Parts
+pub mod Rules
+pub mod Answers
+pub mod Promises
