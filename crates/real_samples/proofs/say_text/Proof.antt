@@ -1,0 +1,71 @@
+-- `real_samples::say_text` is safe: each index is below the length. Assumes nothing.
+use Prim.Native.Nat.{_≤_, _-_}
+use lib.ListN.{length}
+use borrow.Author.Needs.{needs}
+use Rattle.real_samples.proofs.say_text.Statement.{statement}
+use Rattle.real_samples.proofs.say_text.Tie as tie
+
+abbrev Inv-loop : tie.InvT-loop
+Inv-loop text i₀ t3 i = i ≤ length text
+
+abbrev μ-loop : tie.MeasureT-loop
+μ-loop text i₀ t3 i = length text - i
+
+loop-holds : tie.Need-loop-holds Inv-loop μ-loop
+loop-holds c = search needs
+
+shared-slice-read-if1 : tie.Need-shared-slice-read-if1 Inv-loop μ-loop
+shared-slice-read-if1 c = search needs
+
+slice-aggregate-say : tie.Need-slice-aggregate-say Inv-loop μ-loop
+slice-aggregate-say c = search needs
+
+say-requires : tie.Need-say-requires Inv-loop μ-loop
+say-requires c κs = search needs
+
+add-say : tie.Need-add-say Inv-loop μ-loop
+add-say c = search needs
+
+sub-say : tie.Need-sub-say Inv-loop μ-loop
+sub-say c = search needs
+
+part-say-start : tie.Need-part-say-start Inv-loop μ-loop
+part-say-start c = search needs
+
+part-say-end : tie.Need-part-say-end Inv-loop μ-loop
+part-say-end c = search needs
+
+say-requires-2 : tie.Need-say-requires-2 Inv-loop μ-loop
+say-requires-2 c κs = search needs
+
+add-i : tie.Need-add-i Inv-loop μ-loop
+add-i c = search needs
+
+loop-less : tie.Need-loop-less Inv-loop μ-loop
+loop-less c = search needs
+
+loop-again : tie.Need-loop-again Inv-loop μ-loop
+loop-again c = search needs
+
+returns : tie.Need-returns Inv-loop μ-loop
+returns c = search needs
+
+pub say-text-spec : {M : Type 1} → statement M
+say-text-spec =
+    tie.close
+    (tie.spec
+    Inv-loop
+    μ-loop
+    loop-holds
+    shared-slice-read-if1
+    slice-aggregate-say
+    say-requires
+    add-say
+    sub-say
+    part-say-start
+    part-say-end
+    say-requires-2
+    add-i
+    loop-less
+    loop-again
+    returns)
