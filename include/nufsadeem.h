@@ -28,6 +28,8 @@
  *   11  above 12 lines, where every input is tried                              0
  *   12  a level above the last                                                  0
  *   13  a multiple fault with no entry, with above 256, or with a site twice    0
+ *   14  a text that is not of the form that is read                             its first faulty line, from 1
+ *   15  a gate of a text that begins with a letter other than t                 its line, from 1
  * A vector, a state, a fault or a class that is asked alone has number 1. A place above 4,294,967,295 is told as that.
  */
 #ifndef NUFSADEEM_H
@@ -49,6 +51,7 @@ typedef struct { uint32_t number, place, caught; } nuf_catch;          /* caught
 typedef struct { uint32_t number, place, vector; } nuf_vector;
 typedef struct { uint32_t number, place, count; } nuf_count;
 typedef struct { uint32_t number, place, lines, classes, gates, vectors; } nuf_job;
+typedef struct { uint32_t number, place, lines, gates; } nuf_circuit;
 typedef struct {
     uint32_t number, place, caught, total, complete;                   /* complete: 1 or 0 */
     nuf_fault first;                                                   /* the first uncaught fault; all 0 where complete */
@@ -120,6 +123,27 @@ nuf_count nuf_write_job(uint32_t lines, uint32_t classes, const uint32_t *gates,
  * that breaks a rule is a line with the rule's number and place.
  * Rule 10. Room: the text's length, which is 100 bytes at most. */
 nuf_count nuf_report(const uint8_t *bytes, size_t bytes_len, uint8_t *out, size_t out_len);
+
+/* Reads a circuit from a text in the .real format: its gates to the front of `gates`, their number and that of its lines into the
+ * answer. The text is ASCII. Its lines end with LF or CR LF, which the last may lack, and words are parted by spaces or tabs. Blank
+ * lines and lines whose first word begins with # are skipped. The others are, in this order:
+ *   .version, with any words
+ *   .numvars, with the number of names
+ *   .variables, with the names, all different, each of 1 to 8 letters, digits or underscores; the first is line 0
+ *   each at most once and in any order: .inputs, .outputs, .garbage, with any words; .constants, with one word, a - for each name
+ *   .begin
+ *   the gates, `t3 a b c`: t and the number of names that follow; the last of them is the target, the others are controls
+ *   .end
+ * Numbers are decimal, with no zero in front.
+ * Rules 15 and 14 (the first faulty line is told, 15 before 14 if both are broken there; where .end is missing, the line after the
+ * last), 3, 5, 7 (a target among its controls), 10. Room: three words for each gate, which is 3,072 words at most. */
+nuf_circuit nuf_import_real(const uint8_t *text, size_t text_len, uint32_t *gates, size_t gates_len);
+
+/* Writes a circuit in the .real format to the front of `out`, its lines named x0, x1 and so on; `count` is the number of bytes
+ * written. The text has no optional part, the controls of a gate in rising order, single spaces and LF; importing it gives the same
+ * circuit.
+ * Rules 3, 5, 7, 10. Room: the text's length, which is 125,094 bytes at most. */
+nuf_count nuf_export_real(uint32_t lines, const uint32_t *gates, size_t gates_len, uint8_t *out, size_t out_len);
 
 #ifdef __cplusplus
 }

@@ -44,6 +44,12 @@ FIELD(nuf_job, gates, 16, 4);
 FIELD(nuf_job, vectors, 20, 4);
 SIZE(nuf_job, 24);
 
+FIELD(nuf_circuit, number, 0, 4);
+FIELD(nuf_circuit, place, 4, 4);
+FIELD(nuf_circuit, lines, 8, 4);
+FIELD(nuf_circuit, gates, 12, 4);
+SIZE(nuf_circuit, 16);
+
 FIELD(nuf_verdict, number, 0, 4);
 FIELD(nuf_verdict, place, 4, 4);
 FIELD(nuf_verdict, caught, 8, 4);
@@ -89,6 +95,11 @@ static void holds(const char *what, const void *memory, const void *due, size_t 
     nuf_job a = call; \
     is(#call, "number", a.number, n), is(#call, "place", a.place, p), is(#call, "lines", a.lines, l); \
     is(#call, "classes", a.classes, c), is(#call, "gates", a.gates, g), is(#call, "vectors", a.vectors, v); \
+} while (0)
+#define CIRCUIT(call, n, p, l, g) do { \
+    nuf_circuit a = call; \
+    is(#call, "number", a.number, n), is(#call, "place", a.place, p); \
+    is(#call, "lines", a.lines, l), is(#call, "gates", a.gates, g); \
 } while (0)
 #define VERDICT(call, n, p, c, t, all, class, at, l, v) do { \
     nuf_verdict a = call; \
@@ -237,6 +248,28 @@ static void jobs(void)
     holds("nuf_report", out, text, sizeof text - 1);
 }
 
+static void texts(void)
+{
+    static const uint8_t text[] = ".version 1.0\n.numvars 5\n.variables x0 x1 x2 x3 x4\n.begin\nt3 x0 x1 x2\nt2 x2 x4\nt1 x3\n.end\n";
+    enum { LENGTH = sizeof text - 1, ROOM = 96 };
+    uint8_t third_gate_bad[LENGTH], out[ROOM] = {0};
+    uint32_t words[ROOM] = {0};
+    memcpy(third_gate_bad, text, LENGTH);
+    third_gate_bad[LENGTH - 10] = '9';
+    CIRCUIT(nuf_import_real(third_gate_bad, LENGTH, words, 9), 14, 7, 0, 0);
+    CIRCUIT(nuf_import_real(text, 9, words, LENGTH), 14, 2, 0, 0);
+    CIRCUIT(nuf_import_real(text, LENGTH, words, 9), 0, 0, 5, 3);
+    holds("nuf_import_real", words, gates, sizeof gates);
+
+    /* `words` goes on with gates that have no controls and target 0 */
+    COUNT(nuf_export_real(5, third_bad, 9, out, ROOM), 7, 3, 0);
+    COUNT(nuf_export_real(9, words, 5, out, ROOM), 7, 2, 0);
+    COUNT(nuf_export_real(ROOM, words, 9, out, 5), 3, 0, 0);
+    COUNT(nuf_export_real(5, words, ROOM, out, 9), 10, 0, 0);
+    COUNT(nuf_export_real(5, words, 9, out, ROOM), 0, 0, LENGTH);
+    holds("nuf_export_real", out, text, LENGTH);
+}
+
 int main(void)
 {
     runs();
@@ -245,6 +278,7 @@ int main(void)
     sets();
     dropping();
     jobs();
+    texts();
     if (broken) {
         printf("host: %u fields and lists are not what the header makes them\n", broken);
         return 1;

@@ -1,6 +1,6 @@
--- Every border holds: each row by computing, with all definitions unfolded, and the longest job by the law of jobs that are written and
--- read. The check names the table in which a row is wrong, and where that is not too much to print the row too, with its number,
--- what came and what was expected. Assumes nothing.
+-- Every border holds: each row by computing, with all definitions unfolded, the longest job by the law of jobs that are written and
+-- read, and the largest word digit by digit. The check names the table in which a row is wrong, and where that is not too much to
+-- print the row too, with its number, what came and what was expected. Assumes nothing.
 use mathlib.Core.Path.{refl}
 use Rattle.basics.specs.Lists.{upFrom, keep, each, some}
 use Rattle.basics.specs.Sums.{sumFrom}
@@ -69,7 +69,7 @@ use Rattle.borders.specs.JobOrders.{jobOrderTable}
 use Rattle.borders.specs.Long.{longTable, longOrderTable}
 use Rattle.borders.specs.Claim.{Borders}
 use Rattle.borders.proofs.Computing.{by-computing}
-use Rattle.borders.proofs.Longest.{longest-read, longest-reported}
+use Rattle.borders.proofs.Longest.{longest-read, longest-reported, largest-word}
 
 pub every-border : Borders
 unfolding answerTable circuitTable faultTable meaningTable multipleTable judgeTable dropTable setTable job bareJob readTable writeTable
@@ -105,4 +105,5 @@ every-border = record {
   long-orders = by-computing longOrderTable refl;
   longest-read = longest-read;
   longest-reported = longest-reported;
+  largest-word = largest-word;
 }

@@ -1,8 +1,9 @@
 -- The longest job is taken. It is the image of a job that is written, and so it is read as that job, by the law that a job which is
--- written is read again as it was: reading 20,480 bytes one by one would be long to compute. Assumes nothing.
-use Prim.Native.Nat.{ℕ}
+-- written is read again as it was: reading 20,480 bytes one by one would be long to compute.
+-- So is the largest word in decimal, which is written digit by digit. Assumes nothing.
+use Prim.Native.Nat.{ℕ, _/_, _%_, _≤_}
 use mathlib.Core.Path.{_≡_, refl, sym, ap, subst, _∙_}
-use mathlib.Core.List.{List, [], _∷_}
+use mathlib.Core.List.{List, [], _∷_, _++_}
 use native.Mathlib.Omega.{arith}
 use lib.ListN.{take, replicate}
 use Rattle.basics.specs.Lists.{each}
@@ -20,6 +21,7 @@ use Rattle.job.specs.Image.{header, rowBytes, gateCount, image, linesIn, classe
 use Rattle.job.specs.Rules.{badClasses, contentRows, readRows, writeRows}
 use Rattle.job.proofs.RoundTrip.{Holds, read-written, read-written-fine}
 use Rattle.text.specs.Decimal.{digit, decimalIn, decimal}
+use Rattle.text.proofs.TextLaws.{decimal-small, decimal-more}
 use Rattle.report_text.specs.Lines.{spaced, line}
 use Rattle.report_text.specs.Report.{jobText, reportText, textOf}
 use Rattle.job.specs.Promises.{readTells}
@@ -64,3 +66,19 @@ report-is =
 pub longest-reported : take 14 (reportText longestJob) ≡ 74 ∷ 32 ∷ 49 ∷ 32 ∷ 49 ∷ 48 ∷ 50 ∷ 52 ∷ 32 ∷ 50 ∷ 48 ∷ 52 ∷ 56 ∷ 10 ∷ []
 unfolding jobText digit decimalIn decimal spaced line each gatesOf
 longest-reported = ap (take 14) report-is
+
+last : (x : ℕ) → 10 ≤ x → {digits : List ℕ} → decimal (x / 10) ≡ digits → decimal x ≡ digits ++ (digit (x % 10) ∷ [])
+last x h e = decimal-more x h ∙ ap (λ l. l ++ (digit (x % 10) ∷ [])) e
+
+pub largest-word : decimal 4294967295 ≡ 52 ∷ 50 ∷ 57 ∷ 52 ∷ 57 ∷ 54 ∷ 55 ∷ 50 ∷ 57 ∷ 53 ∷ []
+unfolding digit
+largest-word =
+    last 4294967295 (omega arith)
+    (last 429496729 (omega arith)
+    (last 42949672 (omega arith)
+    (last 4294967 (omega arith)
+    (last 429496 (omega arith)
+    (last 42949 (omega arith)
+    (last 4294 (omega arith)
+    (last 429 (omega arith)
+    (last 42 (omega arith) (decimal-small 4 (omega arith))))))))))

@@ -1,9 +1,10 @@
--- The one claim: every row of every table is right, and the longest job is taken.
+-- The one claim: every row of every table is right, the longest job is taken, and the largest word is written.
 use mathlib.Core.Path.{_≡_}
 use mathlib.Core.List.{[], _∷_}
 use lib.ListN.{take, replicate}
 use Rattle.basics.specs.Lists.{All}
 use Rattle.refusals.specs.Tables.Told.{answered}
+use Rattle.text.specs.Decimal.{decimal}
 use Rattle.report_text.specs.Report.{reportText}
 use Rattle.borders.specs.Rows.{Right}
 use Rattle.job.specs.Promises.{readTells}
@@ -43,3 +44,5 @@ pub record Borders : Type 0 where
   pub longest-read : readTells longestJob (replicate 3072 9) (replicate 2048 9) ≡ answered (1 ∷ 1 ∷ 1024 ∷ 2048 ∷ [])
   -- and reported: J 1 1024 2048
   pub longest-reported : take 14 (reportText longestJob) ≡ 74 ∷ 32 ∷ 49 ∷ 32 ∷ 49 ∷ 48 ∷ 50 ∷ 52 ∷ 32 ∷ 50 ∷ 48 ∷ 52 ∷ 56 ∷ 10 ∷ []
+  -- the largest word in decimal
+  pub largest-word : decimal 4294967295 ≡ 52 ∷ 50 ∷ 57 ∷ 52 ∷ 57 ∷ 54 ∷ 55 ∷ 50 ∷ 57 ∷ 53 ∷ []

@@ -83,7 +83,6 @@ reportTable =
     decimal 99 gives (57 ∷ 57 ∷ []) ∷
     decimal 100 gives (49 ∷ 48 ∷ 48 ∷ []) ∷
     decimal 65600 gives (54 ∷ 53 ∷ 54 ∷ 48 ∷ 48 ∷ []) ∷
-    decimal 4294967295 gives (52 ∷ 50 ∷ 57 ∷ 52 ∷ 57 ∷ 54 ∷ 55 ∷ 50 ∷ 57 ∷ 53 ∷ []) ∷
     -- rule 10: room for the text; what lies beyond keeps its contents, and a refusal leaves all
     reportTells job (replicate 47 9) tells refused 10 0 ∷
     reportTells job (replicate 48 9) tells answered (48 ∷ []) ∷

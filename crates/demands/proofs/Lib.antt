@@ -50,3 +50,8 @@ pub mod RulesOfC
 pub mod ImagesPromised
 pub mod Images
 pub mod ImagesOfCalls
+pub mod RealForm
+pub mod RealFormLaws
+pub mod RealLines
+pub mod RealStages
+pub mod RealReading

@@ -1,13 +1,12 @@
 -- What the report is: from any bytes a text, of a refused job its refusal, and of any other the verdicts on the classes that it wants.
-use Prim.Native.Nat.{ℕ, zero, suc, _+_, _-_, _/_, _%_, _^_, _≤_, _<_}
+use Prim.Native.Nat.{ℕ, _+_, _-_, _/_, _%_, _≤_, _<_}
 use mathlib.Core.Path.{_≡_, refl, sym, ap, ap₂, _∙_, subst}
 use mathlib.Core.Logic.{_≢_}
 use mathlib.Core.List.{List, [], _∷_, _++_, append-nil}
-use native.Mathlib.Nat.{pow-suc}
 use native.Mathlib.Omega.{arith}
 use lib.ListN.{length, drop}
-use lib.Dec.{ltb, eqb}
-use borrow.Author.Tests.{eq-eqb, ne-eqb, ltb-true, ltb-false, lt-ltb, eqb-true, eqb-false}
+use lib.Dec.{eqb}
+use borrow.Author.Tests.{eq-eqb, ne-eqb, eqb-true, eqb-false}
 use denote.Ref.{now}
 use Rattle.basics.specs.Choice.{choice}
 use Rattle.basics.specs.Lists.{upFrom, keep, each, All}
@@ -25,7 +24,8 @@ use Rattle.judge.specs.Judging.{caughtOf, uncaughtOf}
 use Rattle.marking.specs.Firsts.{firstTold}
 use Rattle.job.specs.Image.{linesIn, classesIn, gateWords, vectorWords}
 use Rattle.job.specs.Rules.{readRows}
-use Rattle.text.specs.Decimal.{digit, decimalIn, decimal}
+use Rattle.text.specs.Decimal.{digit, decimal}
+use Rattle.text.proofs.TextLaws.{decimal-small, decimal-more, by-digits}
 use Rattle.report_text.specs.Lines.{spaced, line}
 use Rattle.report_text.specs.Report.{letterOf, shown, firstText, classText, jobText, refusedText, textOf, reportText}
 use Rattle.job.specs.Wanted.{isWanted, wanted}
@@ -48,18 +48,16 @@ pub data Decimal : ℕ → List ℕ → Type 0 where
   one : {x : ℕ} → x < 10 → Decimal x ((48 + x) ∷ [])
   more : {x : ℕ} {digits : List ℕ} → 10 ≤ x → Decimal (x / 10) digits → Decimal x (digits ++ ((48 + x % 10) ∷ []))
 
-in-places : (places x : ℕ) → x < 10 ^ suc places → Decimal x (decimalIn (suc places) x)
-unfolding decimalIn digit
-in-places zero x h = subst (Decimal x) (sym (choice-true (lt-ltb x 10 (omega arith)) (digit x ∷ []) _)) (one (omega arith))
-in-places (suc places) x h = by-test (ltb x 10)
-    (λ t. subst (Decimal x) (sym (choice-true t (digit x ∷ []) _)) (one (ltb-true x 10 t)))
-    (λ t. subst (Decimal x) (sym (choice-false t (digit x ∷ []) _))
-    (more (ltb-false x 10 t) (in-places places (x / 10) (omega (arith, pow-suc 10 (suc places))))))
+pub decimal-is : (x : ℕ) → Decimal x (decimal x)
+unfolding digit
+decimal-is = by-digits (λ x. Decimal x (decimal x))
+    (λ x h. subst (Decimal x) (sym (decimal-small x h)) (one h))
+    (λ x h d. subst (Decimal x) (sym (decimal-more x h)) (more h d))
 
 -- a field is one blank and such a number
-pub spaced-is : (x : ℕ) → x < 10 ^ 10 → (digits : List ℕ) × (spaced x ≡ 32 ∷ digits) × Decimal x digits
-unfolding spaced decimal
-spaced-is x h = (decimal x, refl, in-places 9 x h)
+pub spaced-is : (x : ℕ) → (digits : List ℕ) × (spaced x ≡ 32 ∷ digits) × Decimal x digits
+unfolding spaced
+spaced-is x = (decimal x, refl, decimal-is x)
 
 abbrev pub fields : List ℕ → List ℕ
 fields [] = []

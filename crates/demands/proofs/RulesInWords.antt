@@ -32,7 +32,7 @@ use Rattle.demands.proofs.RuleWords.{Words, InWords, OfOne, OfList, AsW
 use Rattle.demands.proofs.RuleWords.{same-iff, failing, passing, either, neither, not-both, both}
 
 -- what a test of order says
-at-least : (a b : ℕ) → (leb a b ≡ true) ↔ (a ≤ b)
+pub at-least : (a b : ℕ) → (leb a b ≡ true) ↔ (a ≤ b)
 at-least a b = (leb-true a b, le-leb a b)
 
 below : (a b : ℕ) → (leb a b ≡ false) ↔ (b < a)
@@ -44,7 +44,7 @@ less a b = (ltb-true a b, lt-ltb a b)
 no-less : (a b : ℕ) → (ltb a b ≡ false) ↔ (b ≤ a)
 no-less a b = (ltb-false a b, le-ltb a b)
 
-equal : (a b : ℕ) → (eqb a b ≡ true) ↔ (a ≡ b)
+pub equal : (a b : ℕ) → (eqb a b ≡ true) ↔ (a ≡ b)
 equal a b = (eqb-true a b, eq-eqb a b)
 
 other : (a b : ℕ) → (eqb a b ≡ false) ↔ (a ≢ b)

@@ -1,13 +1,12 @@
--- What a circuit is that breaks no rule of the export, and the room as code tests it.
-use Prim.Native.Nat.{ℕ, _≤_}
-use mathlib.Core.Path.{_≡_, sym, ap, _∙_}
-use mathlib.Core.Bool.{not}
+-- Which test breaks which rule of the export, and what a circuit that breaks none is.
+use Prim.Native.Nat.{ℕ, _<_, _≤_}
+use mathlib.Core.Path.{_≡_, sym, _∙_}
 use mathlib.Core.List.{List, [], _∷_}
+use native.Mathlib.Omega.{arith}
 use lib.ListN.{length}
-use lib.Dec.{ltb, leb}
-use borrow.Author.Tests.{lt-ltb, le-ltb, leb-true, leb-false, ltb-false}
-use Rattle.basics.proofs.Tests.{by-test}
-use Rattle.refusals.specs.Tables.{Told, firstOf}
+use lib.Dec.{ltb}
+use borrow.Author.Tests.{lt-ltb, le-ltb, ltb-false}
+use Rattle.refusals.specs.Tables.{firstOf}
 use Rattle.refusals.specs.Tables.Row.{refuse_at_when_}
 use Rattle.refusals.specs.Tables.Told.{refused}
 use Rattle.refusals.specs.Checks.{fine}
@@ -18,21 +17,21 @@ use Rattle.circuit.proofs.RuleLaws.{sound}
 use Rattle.real.specs.Export.{realText}
 use Rattle.real_export.specs.Rules.{exportRows}
 
--- a negated test
-not-leb : (a b : ℕ) → not (leb a b) ≡ ltb b a
-not-leb a b = by-test (leb a b) (λ e. ap not e ∙ sym (le-ltb b a (leb-true a b e))) (λ e. ap not e ∙ sym (lt-ltb b a (leb-false a b e)))
-
 module _ (n : ℕ) (words : List ℕ) (room : ℕ) where
+  -- a circuit that breaks a rule
   pub circuit-refused : (k p : ℕ) → refused k p ≡ firstOf (circuitRows n words) fine → refused k p ≡ firstOf (exportRows n words room) fine
   unfolding exportRows
   circuit-refused k p e = refused-on (circuitRows n words) _ fine k p e
 
-  pub room-tested : (needed : ℕ) (told : Told) → fine ≡ firstOf (circuitRows n words) fine → needed ≡ length (realText n words)
-      → told ≡ firstOf (refuse 10 at 0 when not (leb needed room) ∷ []) fine → told ≡ firstOf (exportRows n words room) fine
-  unfolding exportRows
-  room-tested needed told e l t =
-      t ∙ ap (λ b. firstOf (refuse 10 at 0 when b ∷ []) fine) (not-leb needed room ∙ ap (ltb room) l)
-      ∙ sym (fine-on (circuitRows n words) (refuse 10 at 0 when ltb room (length (realText n words)) ∷ []) fine e)
+  -- any other, by the room for its text
+  module _ (needed : ℕ) (e : fine ≡ firstOf (circuitRows n words) fine) (l : needed ≡ length (realText n words)) where
+    pub room-short : room < needed → refused 10 0 ≡ firstOf (exportRows n words room) fine
+    unfolding exportRows
+    room-short h = sym (fine-on (circuitRows n words) _ fine e ∙ rw (lt-ltb room (length (realText n words)) (omega arith)))
+
+    pub room-enough : needed ≤ room → fine ≡ firstOf (exportRows n words room) fine
+    unfolding exportRows
+    room-enough h = sym (fine-on (circuitRows n words) _ fine e ∙ rw (le-ltb room (length (realText n words)) (omega arith)))
 
   pub record ExportOk : Type 0 where
     pub circuit : Sound n words

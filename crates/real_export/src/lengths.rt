@@ -14,7 +14,7 @@ use circuit::checked;
 use circuit::numbers;
 use words;
 
-// The digits of a number below 100.
+// How many digits a number below 100 has.
 fn digits(x: u32) -> usize
     requires { ⌜ x < 100 ⌝ }
     ensures { λ r. ⌜ r ≡ length (decimal x) ⌝ }
@@ -22,7 +22,7 @@ fn digits(x: u32) -> usize
     if x < 10 { 1 } else { 2 }
 }
 
-// The name of a line that is 1 in a word, with a blank and the letter before its number.
+// The name of a line that is 1 in a word, with the blank before it: 2 bytes are that blank and the letter. Else nothing.
 fn name_length(word: u32, line: u32) -> usize
     requires { ⌜ line < mostLines ⌝ }
     ensures { λ r. ⌜ r ≡ length (nameIf word line) ⌝ }

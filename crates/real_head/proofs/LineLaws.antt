@@ -1,11 +1,11 @@
 -- Laws of a line by its words, and of the lines up to .begin.
-use Prim.Native.Nat.{ℕ, suc, _+_, _-_, _<_, _≤_}
+use Prim.Native.Nat.{ℕ, _+_, _-_, _<_, _≤_}
 use mathlib.Core.Path.{_≡_, refl, sym, ap, _∙_}
-use mathlib.Core.Bool.{Bool, true, false, _&&_}
+use mathlib.Core.Bool.{Bool, false}
 use mathlib.Core.List.{List, [], _∷_}
 use native.Mathlib.Omega.{arith}
 use native.Mathlib.Numerals.{add-one}
-use lib.ListN.{length, take, drop, getD, drop-of-length-le}
+use lib.ListN.{length, drop, getD, drop-of-length-le}
 use lib.Seq.{getD-take, getD-drop}
 use lib.Dec.{eqb}
 use Rattle.basics.specs.Choice.{choice}
@@ -13,18 +13,15 @@ use Rattle.text.specs.Texts.{every, begins}
 use Rattle.text.proofs.EveryLaws.{begins-first}
 use Rattle.text_words.specs.Words.{linesOf, wordsOf}
 use Rattle.text_words.specs.Runs.{part, LineAt}
-use Rattle.real.specs.Form.{Word, Stage, Step, next, gateDue, isOther, isPlain, stepWith, stepOf}
-use Rattle.real.specs.Form.Stage.{begun}
+use Rattle.real.specs.Form.{Word, Stage, next, gateDue, isPlain, stepWith, stepOf}
 use Rattle.real.specs.Form.Step.{goes, stops}
-use Rattle.real.specs.Reading.{Reading, reading, readFrom}
+use Rattle.real.specs.Reading.{reading, readFrom}
 use Rattle.real.specs.Reading.Reading.{faulty}
 use Rattle.real.proofs.ReadLaws.{read-goes, read-stops}
 use Rattle.real_head.specs.declared.Due.{Due}
 use Rattle.real_head.specs.declared.Due.the-variants as due
-use Rattle.real_head.specs.declared.Turn.{Turn}
-use Rattle.real_head.specs.declared.Turn.the-variants as turn
-use Rattle.real_head.specs.Stages.{stageOf, Turned, StandsAt}
-use Rattle.real_head.proofs.TurnLaws.{part-length, part-part}
+use Rattle.real_head.specs.Stages.{stageOf}
+use Rattle.real_head.proofs.TurnLaws.{part-length}
 
 -- ---- one line
 

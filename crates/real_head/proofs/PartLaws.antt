@@ -1,10 +1,9 @@
 -- Laws of the optional parts: a part that may come leads on, and may not come again.
-use mathlib.Core.Path.{_≡_, refl, sym, ap, _∙_}
-use mathlib.Core.Bool.{Bool, true, false, not, _&&_, _||_, and-true, and-false, or-false}
+use mathlib.Core.Path.{_≡_, refl, ap, _∙_}
+use mathlib.Core.Bool.{Bool, true, false, not, _&&_, _||_, and-true, and-false}
 use mathlib.Core.List.{List, [], _∷_}
 use lib.ListN.{length}
 use lib.Dec.{eqb}
-use Rattle.basics.specs.Choice.{choice}
 use Rattle.basics.specs.Lists.{some, keep}
 use Rattle.basics.proofs.Tests.{choice-true, choice-false}
 use Rattle.text.specs.Texts.{ascii, same, among}
@@ -14,43 +13,32 @@ use Rattle.real.specs.Form.Stage.{named, begun}
 use Rattle.real.specs.Form.Step.{goes, stops}
 use Rattle.real_head.specs.Stages.{picked, partsIn}
 
-among-picked : (b : Bool) (w p : Word) (rest : List Word) → among w (picked b p rest) ≡ (b && same w p) || among w rest
+-- a word asks for one of some parts: whether it may come, and the parts that may come after it
+record Asked (w : Word) (may : Bool) (parts left : List Word) : Type 0 where
+  is : among w parts ≡ may
+  kept : keep (λ p. not (same p w)) parts ≡ left
+
+-- part by part: none is left, the word is another, the word is this one
+no-part : (w : Word) → Asked w false [] []
+unfolding among some keep
+no-part w = record { is = refl; kept = refl }
+
+among-passed : (w p : Word) (b : Bool) (parts : List Word) → same w p ≡ false → among w (picked b p parts) ≡ among w parts
 unfolding among some
-among-picked true w p rest = refl
-among-picked false w p rest = refl
+among-passed w p true parts e = rw e
+among-passed w p false parts e = refl
 
-keep-picked : (q : Word → Bool) (b : Bool) (p : Word) (rest : List Word) → keep q (picked b p rest) ≡ picked (b && q p) p (keep q rest)
+passed : {w : Word} {may : Bool} {parts left : List Word} (p : Word) (b : Bool) → same w p ≡ false → same p w ≡ false → Asked w may parts left
+    → Asked w may (picked b p parts) (picked b p left)
 unfolding keep
-keep-picked q true p rest = as-picked (q p)
-  where
-    as-picked : (a : Bool) → choice a (p ∷ keep q rest) (keep q rest) ≡ picked a p (keep q rest)
-    as-picked true = refl
-    as-picked false = refl
-keep-picked q false p rest = refl
+passed {w} {may} {parts} p true e f r = record { is = among-passed w p true parts e ∙ r .is; kept = rw f (ap (λ l. p ∷ l) (r .kept)) }
+passed p false e f r = r
 
-module _ (i o g k : Bool) where
-  among-parts : (w : Word) → among w (partsIn i o g k)
-      ≡ (i && same w (ascii ".inputs")) || ((o && same w (ascii ".outputs")) || ((g && same w (ascii ".garbage")) || (k && same w (ascii ".constants"))))
-  unfolding partsIn among some
-  among-parts w =
-      rw (
-        among-picked i w (ascii ".inputs") (picked o (ascii ".outputs") (picked g (ascii ".garbage") (picked k (ascii ".constants") []))),
-        among-picked o w (ascii ".outputs") (picked g (ascii ".garbage") (picked k (ascii ".constants") [])),
-        among-picked g w (ascii ".garbage") (picked k (ascii ".constants") []),
-        among-picked k w (ascii ".constants") [],
-        or-false (k && same w (ascii ".constants")),
-      )
-
-  keep-parts : (q : Word → Bool) → keep q (partsIn i o g k)
-      ≡ partsIn (i && q (ascii ".inputs")) (o && q (ascii ".outputs")) (g && q (ascii ".garbage")) (k && q (ascii ".constants"))
-  unfolding partsIn keep
-  keep-parts q =
-      rw (
-        keep-picked q i (ascii ".inputs") (picked o (ascii ".outputs") (picked g (ascii ".garbage") (picked k (ascii ".constants") []))),
-        keep-picked q o (ascii ".outputs") (picked g (ascii ".garbage") (picked k (ascii ".constants") [])),
-        keep-picked q g (ascii ".garbage") (picked k (ascii ".constants") []),
-        keep-picked q k (ascii ".constants") [],
-      )
+asked : {w : Word} {parts left : List Word} (p : Word) (b : Bool) → same w p ≡ true → same p w ≡ true → Asked w false parts left
+    → Asked w b (picked b p parts) left
+unfolding among some keep
+asked p true e f r = record { is = rw e; kept = rw f (r .kept) }
+asked p false e f r = r
 
 -- ---- a line in the stage of the parts: .begin, each of the four, and none of them
 
@@ -64,81 +52,60 @@ unfolding next
 begin-next names parts more word e = choice-true e _ _
 
 module _ (names more : List Word) (i o g k : Bool) where
+  asked-next : (w : Word) (may right : Bool) (left : List Word) → Asked w may (partsIn i o g k) left
+      → (same w (ascii ".begin") && eqb (length more) 0) ≡ false → (not (same w (ascii ".constants")) || isConstants (length names) more) ≡ right
+      → next (named names (partsIn i o g k)) w more ≡ when (may && right) (named names left)
+  unfolding next
+  asked-next w may right left r e f = choice-false e _ _ ∙ rw (r .is, f, r .kept)
+
+  part-next : (w : Word) (may : Bool) (left : List Word) → Asked w may (partsIn i o g k) left
+      → (same w (ascii ".begin") && eqb (length more) 0) ≡ false → (not (same w (ascii ".constants")) || isConstants (length names) more) ≡ true
+      → next (named names (partsIn i o g k)) w more ≡ when may (named names left)
+  part-next w may left r e f = asked-next w may true left r e f ∙ ap (λ b. when b (named names left)) (and-true may)
+
   pub inputs-next : next (named names (partsIn i o g k)) (ascii ".inputs") more ≡ when i (named names (partsIn false o g k))
-  unfolding next ascii same
-  inputs-next =
-      rw (
-        among-parts i o g k (ascii ".inputs"),
-        keep-parts i o g k (λ p. not (same p (ascii ".inputs"))),
-        and-true i,
-        and-false i,
-        and-true o,
-        and-false o,
-        and-true g,
-        and-false g,
-        and-true k,
-        and-false k,
-        or-false i,
-        and-true i,
-      )
+  unfolding partsIn ascii same
+  inputs-next = part-next (ascii ".inputs") i _
+      (asked (ascii ".inputs") i refl refl (passed (ascii ".outputs") o refl refl
+      (passed (ascii ".garbage") g refl refl (passed (ascii ".constants") k refl refl (no-part (ascii ".inputs"))))))
+      refl refl
 
   pub outputs-next : next (named names (partsIn i o g k)) (ascii ".outputs") more ≡ when o (named names (partsIn i false g k))
-  unfolding next ascii same
-  outputs-next =
-      rw (
-        among-parts i o g k (ascii ".outputs"),
-        keep-parts i o g k (λ p. not (same p (ascii ".outputs"))),
-        and-true i,
-        and-false i,
-        and-true o,
-        and-false o,
-        and-true g,
-        and-false g,
-        and-true k,
-        and-false k,
-        or-false o,
-        and-true o,
-      )
+  unfolding partsIn ascii same
+  outputs-next = part-next (ascii ".outputs") o _
+      (passed (ascii ".inputs") i refl refl (asked (ascii ".outputs") o refl refl
+      (passed (ascii ".garbage") g refl refl (passed (ascii ".constants") k refl refl (no-part (ascii ".outputs"))))))
+      refl refl
 
   pub garbage-next : next (named names (partsIn i o g k)) (ascii ".garbage") more ≡ when g (named names (partsIn i o false k))
-  unfolding next ascii same
-  garbage-next =
-      rw (
-        among-parts i o g k (ascii ".garbage"),
-        keep-parts i o g k (λ p. not (same p (ascii ".garbage"))),
-        and-true i,
-        and-false i,
-        and-true o,
-        and-false o,
-        and-true g,
-        and-false g,
-        and-true k,
-        and-false k,
-        or-false g,
-        and-true g,
-      )
+  unfolding partsIn ascii same
+  garbage-next = part-next (ascii ".garbage") g _
+      (passed (ascii ".inputs") i refl refl (passed (ascii ".outputs") o refl refl
+      (asked (ascii ".garbage") g refl refl (passed (ascii ".constants") k refl refl (no-part (ascii ".garbage"))))))
+      refl refl
 
-  pub constants-next : (right : Bool) → isConstants (length names) more ≡ right
-      → next (named names (partsIn i o g k)) (ascii ".constants") more ≡ when (k && right) (named names (partsIn i o g false))
-  unfolding next ascii same
-  constants-next right e =
-      rw (
-        among-parts i o g k (ascii ".constants"),
-        keep-parts i o g k (λ p. not (same p (ascii ".constants"))),
-        and-true i,
-        and-false i,
-        and-true o,
-        and-false o,
-        and-true g,
-        and-false g,
-        and-true k,
-        and-false k,
-        e,
-      )
+  constants-asked : Asked (ascii ".constants") k (partsIn i o g k) (partsIn i o g false)
+  unfolding partsIn ascii same
+  constants-asked =
+      passed (ascii ".inputs") i refl refl (passed (ascii ".outputs") o refl refl
+      (passed (ascii ".garbage") g refl refl (asked (ascii ".constants") k refl refl (no-part (ascii ".constants")))))
 
-  pub none-next : (word : Word) → (same word (ascii ".begin") && eqb (length more) 0) ≡ false → same word (ascii ".inputs") ≡ false
-      → same word (ascii ".outputs") ≡ false → same word (ascii ".garbage") ≡ false → same word (ascii ".constants") ≡ false
-      → next (named names (partsIn i o g k)) word more ≡ stops 14
-  unfolding next
-  none-next word no-begin e f h m =
-      choice-false no-begin _ _ ∙ rw (among-parts i o g k word, e, f, h, m, and-false i, and-false o, and-false g, and-false k)
+  pub constants-next : isConstants (length names) more ≡ true
+      → next (named names (partsIn i o g k)) (ascii ".constants") more ≡ when k (named names (partsIn i o g false))
+  unfolding ascii same
+  constants-next e = part-next (ascii ".constants") k _ constants-asked refl e
+
+  pub constants-wrong : isConstants (length names) more ≡ false → next (named names (partsIn i o g k)) (ascii ".constants") more ≡ stops 14
+  unfolding ascii same
+  constants-wrong e = asked-next (ascii ".constants") k false _ constants-asked refl e
+      ∙ ap (λ b. when b (named names (partsIn i o g false))) (and-false k)
+
+  pub none-next : (w : Word) → (same w (ascii ".begin") && eqb (length more) 0) ≡ false → same w (ascii ".inputs") ≡ false
+      → same w (ascii ".outputs") ≡ false → same w (ascii ".garbage") ≡ false → same w (ascii ".constants") ≡ false
+      → next (named names (partsIn i o g k)) w more ≡ stops 14
+  unfolding next partsIn among some
+  none-next w no-begin e f h m =
+      choice-false no-begin _ _ ∙ choice-false
+      (ap (λ b. b && (not (same w (ascii ".constants")) || isConstants (length names) more))
+      (among-passed w (ascii ".inputs") i _ e ∙ among-passed w (ascii ".outputs") o _ f ∙ among-passed w (ascii ".garbage") g _ h
+      ∙ among-passed w (ascii ".constants") k [] m)) _ _

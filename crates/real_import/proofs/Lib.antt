@@ -1,3 +1,4 @@
 pub mod HoldLaws
 pub mod ResultLaws
+pub mod GateLaws
 pub mod LineLaws

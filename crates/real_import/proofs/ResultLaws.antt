@@ -1,10 +1,13 @@
 -- Laws of what the import answers, by what was read and found.
 use Prim.Native.Nat.{ℕ, _*_, _≤_}
 use mathlib.Core.Path.{_≡_, refl, sym, ap, _∙_}
+use mathlib.Core.Bool.{Bool, true, false, _||_}
 use mathlib.Core.List.{List, [], _∷_, _++_}
 use lib.ListN.{length, take}
-use lib.Dec.{ltb}
+use lib.Dec.{eqb, ltb}
+use borrow.Author.Tests.{eqb-true}
 use Rattle.basics.specs.Lists.{onto}
+use Rattle.basics.proofs.Tests.{by-test}
 use Rattle.refusals.specs.Tables.{Row, firstOf}
 use Rattle.refusals.specs.Tables.Row.{refuse_at_when_}
 use Rattle.refusals.specs.Tables.Told.{answered, refused}
@@ -16,17 +19,27 @@ use Rattle.circuit.specs.Limits.{mostGates}
 use Rattle.circuit.specs.Gates.{gatesOf}
 use Rattle.circuit.specs.Rules.{circuitRows}
 use Rattle.real.specs.Reading.Reading.{circuit, faulty}
+use Rattle.real.proofs.NumberLaws.{fifteenOrFourteen}
 use Rattle.real_import.specs.Lines.{Held}
 use Rattle.real_import.specs.Results.{Answers}
 use Rattle.real_import.specs.declared.Imported.the-variants.{Circuit, Refused}
 use Rattle.real_import.proofs.HoldLaws.{count, words-are}
 
 -- a faulty line is the answer, and nothing is stored
-pub answers-15 : (line : ℕ) (room : List ℕ) → Answers (faulty 15 line) room (Refused (record { number = 15; place = inWord line })) room
-answers-15 line room = record { tells = refl; leaves = refl }
+faulty-15 : (line : ℕ) (room : List ℕ) → Answers (faulty 15 line) room (Refused (record { number = 15; place = inWord line })) room
+faulty-15 line room = record { tells = refl; leaves = refl }
 
-pub answers-14 : (line : ℕ) (room : List ℕ) → Answers (faulty 14 line) room (Refused (record { number = 14; place = inWord line })) room
-answers-14 line room = record { tells = refl; leaves = refl }
+faulty-14 : (line : ℕ) (room : List ℕ) → Answers (faulty 14 line) room (Refused (record { number = 14; place = inWord line })) room
+faulty-14 line room = record { tells = refl; leaves = refl }
+
+pub answers-faulty : (number line place : ℕ) (room : List ℕ) → fifteenOrFourteen number ≡ true → place ≡ inWord line
+    → Answers (faulty number line) room (Refused (record { number = number; place = place })) room
+answers-faulty number line place room known e = by-test (eqb number 15)
+    (λ is. rw (e, eqb-true number 15 is) (faulty-15 line room))
+    (λ not-15. rw (e, eqb-true number 14 (or-left-false not-15 known)) (faulty-14 line room))
+  where
+    or-left-false : {a b : Bool} → a ≡ false → (a || b) ≡ true → b ≡ true
+    or-left-false {a} {b} f t = sym (ap (λ x. x || b) f) ∙ t
 
 -- a circuit that was read, by its rules
 module _ (n gates : ℕ) (own words room : List ℕ) where

@@ -1,12 +1,13 @@
 -- What the code's stages after .begin mean, and what is held of the gates.
-use Prim.Native.Nat.{ℕ, _+_, _*_, _/_, _≤_}
+use Prim.Native.Nat.{ℕ, _+_, _*_, _/_, _≤_, _<_}
 use mathlib.Core.Path.{_≡_}
 use mathlib.Core.List.{List, [], _∷_, _++_}
-use lib.ListN.{length, take}
+use lib.ListN.{length, take, getD}
 use lib.Seq.{sets}
 use lib.Dec.{ltb}
 use Rattle.basics.specs.Choice.{choice}
 use Rattle.circuit.specs.Limits.{mostLines}
+use Rattle.text_words.specs.Runs.{WordAt}
 use Rattle.real.specs.Form.{Word, Stage, Step, stepOf}
 use Rattle.real.specs.Form.Stage.{begun, done}
 use Rattle.real.specs.Form.Step.{stops}
@@ -26,6 +27,12 @@ stageOf names (due.Nothing gates) = done names
 abbrev pub gatesSoFar : Due → ℕ
 gatesSoFar (due.Gate gates) = gates
 gatesSoFar (due.Nothing gates) = gates
+
+-- a line is not skipped: its first word stands from one place to the other, and does not begin with # (35)
+pub record Counts (line : List ℕ) (from to : ℕ) : Type 0 where
+  pub stands : WordAt line 0 from to
+  pub some : from < to
+  pub first : getD line from 0 ≡ 35 → ⊥
 
 -- a gate is held after so many others, if there is room for it
 unfoldable pub heldAfter : List ℕ → ℕ → ℕ → ℕ → List ℕ

@@ -2,16 +2,15 @@
 ghost use mathlib.Core.Path.{_≡_};
 ghost use mathlib.Core.Bool.{_&&_, not};
 ghost use Prim.Native.Nat.{_+_, _<_, _≤_, _^_};
-ghost use lib.ListN.{length, drop, getD};
+ghost use lib.ListN.{length, drop};
 ghost use lib.Dec.{eqb};
 ghost use Rattle.text_words.specs.Words.{linesOf, wordsOf};
-ghost use Rattle.text_words.specs.Runs.{WordAt};
 ghost use Rattle.real.specs.Form.{isLetter};
 ghost use Rattle.real.specs.Form.Stage.{begun};
 ghost use Rattle.real.specs.Reading.{readFrom, reading};
 ghost use Rattle.real_gates.specs.Keys.{Known};
 ghost use Rattle.real_import.specs.declared.lines.Due.the-variants.{Gate};
-ghost use Rattle.real_import.specs.Lines.{gatesSoFar, Turned, FormRead};
+ghost use Rattle.real_import.specs.Lines.{gatesSoFar, Counts, Turned, FormRead};
 use crate::storing;
 use real::spelling;
 use real_gates::Read;
@@ -60,7 +59,7 @@ fn gate_turn(
     line: usize,
     own: &mut [u32],
 ) -> Turn
-    requires { ⌜ Known (now names) (now keys) count × ((gates < 2 ^ 63) × (WordAt (now here) 0 from to × ((from < to) × ((getD (now here) from 0 ≡ 35) → ⊥)))) ⌝ }
+    requires { ⌜ Known (now names) (now keys) count × (gates < 2 ^ 63) × Counts (now here) from to ⌝ }
     ensures { λ r. ⌜ Turned (wordsOf (now (names .entry))) (Gate gates) (now (here .entry)) line (now (own .entry)) r (now (own .exit)) ⌝ }
 {
     let word = &here[from..to];
@@ -123,7 +122,7 @@ fn read_gates(
     line: usize,
     own: &mut [u32],
 ) -> Form
-    requires { ⌜ Known (now names) (now keys) count × ((first ≤ length (now text)) × (line ≤ first + 1)) ⌝ }
+    requires { ⌜ Known (now names) (now keys) count × (first ≤ length (now text)) × (line ≤ first + 1) ⌝ }
     ensures { λ r. ⌜ FormRead (readFrom line (begun (wordsOf (now (names .entry)))) (linesOf (drop first (now (text .entry))))) r (now (own .exit)) ⌝ }
 {
     let mut at = first;

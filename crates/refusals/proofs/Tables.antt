@@ -1,9 +1,10 @@
 -- Laws of tables of rules, for every table: a check of some of its rows decides the whole.
-use Prim.Native.Nat.{ℕ}
+use Prim.Native.Nat.{ℕ, _<_}
 use mathlib.Core.Path.{_≡_, refl, sym, _∙_}
 use mathlib.Core.Bool.{Bool, true, false}
 use mathlib.Core.List.{List, [], _∷_, _++_}
 use Rattle.basics.specs.Choice.{choice}
+use Rattle.basics.specs.Lists.{All}
 use Rattle.refusals.specs.Tables.{Row, Told, firstOf, after}
 use Rattle.refusals.specs.Tables.Row.{refuse_at_when_}
 use Rattle.refusals.specs.Tables.Told.{answered, refused}
@@ -78,6 +79,25 @@ pub refused-number : (rows : List Row) (k p : ℕ) → Numbered rows → refused
 refused-number [] k p w e = λ z. refused-answered e
 refused-number (refuse n at q when true ∷ rows) k p w e = λ z. let same : k ≡ n = cc in w .0 (sym same ∙ z)
 refused-number (refuse n at q when false ∷ rows) k p w e = refused-number rows k p (w .1) e
+
+-- a number and a place below a bound: where every row has such, a refusal has
+abbrev pub Small : ℕ → Row → Type 0
+Small bound (refuse number at place when broken) = (number < bound) × (place < bound)
+
+refused-small : (bound : ℕ) (rows : List Row) (k p : ℕ) → All (Small bound) rows → refused k p ≡ firstOf rows fine → (k < bound) × (p < bound)
+refused-small bound [] k p w e = refused-answered e
+refused-small bound (refuse n at q when true ∷ rows) k p w e =
+    let number : k ≡ n = cc in
+    let place : p ≡ q = cc in
+    rw (number, place) (w .0)
+refused-small bound (refuse n at q when false ∷ rows) k p w e = refused-small bound rows k p (w .1) e
+
+-- the rows after some need it only where none of these is broken
+pub refused-small-on : (bound : ℕ) (rows more : List Row) (k p : ℕ) → All (Small bound) rows → (fine ≡ firstOf rows fine → All (Small bound) more)
+    → refused k p ≡ firstOf (rows ++ more) fine → (k < bound) × (p < bound)
+refused-small-on bound [] more k p w v e = refused-small bound more k p (v refl) e
+refused-small-on bound (refuse n at q when true ∷ rows) more k p w v e = refused-small bound (refuse n at q when true ∷ []) k p (w .0, tt) e
+refused-small-on bound (refuse n at q when false ∷ rows) more k p w v e = refused-small-on bound rows more k p (w .1) v e
 
 -- two refusals that tell the same are the same
 pub told-refusal : (p q : Refusal) → refused (p .number) (p .place) ≡ refused (q .number) (q .place) → p ≡ q

@@ -1,12 +1,12 @@
 -- How long the report can be: 100 bytes.
 -- J 15 (lines of 2 digits, gates and vectors of 4), S 24 (numbers of 5 digits, a level of 4, a line of 2, a value of 1),
 -- M 17 (three numbers of 4), C and X 22 each (numbers of 5 digits, a gate of 4, a line of 2).
-use Prim.Native.Nat.{ℕ, zero, suc, _+_, _*_, _^_, _<_, _≤_}
+use Prim.Native.Nat.{ℕ, suc, _+_, _*_, _^_, _<_, _≤_}
 use mathlib.Core.Path.{_≡_, refl}
 use mathlib.Core.Bool.{not}
 use mathlib.Core.List.{List, [], _∷_, _++_}
 use native.Mathlib.Omega.{arith}
-use native.Mathlib.Nat.{le-trans, mul-le-mul, pow-le-pow-right}
+use native.Mathlib.Nat.{mul-le-mul}
 use lib.ListN.{length, length-append}
 use borrow.Author.Tests.{eq-eqb}
 use Rattle.basics.specs.Lists.{All, upFrom, keep, each}
@@ -25,24 +25,17 @@ use Rattle.faults.proofs.ClassParts.{all-stuck, all-missing-gates, all-missing-
 use Rattle.faults.proofs.ClassCounts.{length-missing-gates, length-controls}
 use Rattle.faults.proofs.SiteCount.{length-stuck}
 use Rattle.job.specs.Wanted.{isWanted, wanted}
-use Rattle.text.specs.Decimal.{decimalIn, decimal}
 use Rattle.report_text.specs.Lines.{spaced, line}
 use Rattle.report_text.specs.Report.{letterOf, shown, firstText, classText, jobLine, classLines, jobText, refusedText, longestReport}
 use Rattle.report_text.specs.Parts.{wantedText}
-use Rattle.text.proofs.TextLaws.{enough, digits-most}
+use Rattle.text.proofs.TextLaws.{digits-most}
 use Rattle.report_text.proofs.ClassLaws.{wanted-text}
 
 -- ---- numbers
 
-fewer : (more places x : ℕ) → 1 ≤ places → x < 10 ^ places → length (decimalIn (more + places) x) ≤ places
-fewer zero places x p h = let e : 0 + places ≡ places = omega arith in rw e (digits-most places x)
-fewer (suc more) places x p h =
-    let e : suc more + places ≡ suc (more + places) = omega arith in
-    rw (e, enough (more + places) x (omega arith) (le-trans h (pow-le-pow-right (omega arith) (omega arith)))) (fewer more places x p h)
-
-spaced-fits : (more places x : ℕ) → more + places ≡ 10 → 1 ≤ places → x < 10 ^ places → length (spaced x) ≤ 1 + places
-unfolding spaced decimal
-spaced-fits more places x e p h = let w = fewer more places x p h in omega (arith, rw e at w)
+spaced-fits : (places x : ℕ) → 1 ≤ places → x < 10 ^ places → length (spaced x) ≤ 1 + places
+unfolding spaced
+spaced-fits places x p h = omega (arith, digits-most places x p h)
 
 spaced-two : (a b : ℕ) → length (each spaced (a ∷ b ∷ [])) ≡ length (spaced a) + length (spaced b)
 unfolding each
@@ -61,11 +54,11 @@ first-fits class most [] h w = h
 first-fits class most (f ∷ fs) h w = w .0
 
 module _ (n : ℕ) (gs : List Gate) (xs : List ℕ) (class : ℕ) where
-  class-fits : (more places most : ℕ) → more + places ≡ 10 → 1 ≤ places → length (classFaults n gs class) < 10 ^ places → 3 ≤ most
+  class-fits : (places most : ℕ) → 1 ≤ places → length (classFaults n gs class) < 10 ^ places → 3 ≤ most
       → All (λ f. length (each spaced (shown class f)) ≤ most) (classFaults n gs class)
       → length (classText n gs xs class) ≤ 2 + (2 * (1 + places) + most)
   unfolding classText caughtOf uncaughtOf
-  class-fits more places most e p h k w =
+  class-fits places most p h k w =
       let fs = classFaults n gs class in
       let caught = length (keep (caughtBySome gs xs) fs) in
       let first = firstText class (keep (λ f. not (caughtBySome gs xs f)) fs) in
@@ -76,8 +69,8 @@ module _ (n : ℕ) (gs : List Gate) (xs : List ℕ) (class : ℕ) where
       )
       (omega (
         arith,
-        spaced-fits more places caught e p (omega (arith, keep-le (caughtBySome gs xs) fs, h)),
-        spaced-fits more places (length fs) e p h,
+        spaced-fits places caught p (omega (arith, keep-le (caughtBySome gs xs) fs, h)),
+        spaced-fits places (length fs) p h,
         first-fits class most (keep (λ f. not (caughtBySome gs xs f)) fs) k (all-keep _ (λ f. not (caughtBySome gs xs f)) fs w),
       ))
 
@@ -93,17 +86,17 @@ unfolding each
 spaced-one a = rw (length-append (spaced a) []) (omega arith)
 
 gate-fits : (i : ℕ) → i ≤ mostGates → length (spaced i) ≤ 5
-gate-fits i h = spaced-fits 6 4 i refl (omega arith) (omega arith)
+gate-fits i h = spaced-fits 4 i (omega arith) (omega arith)
 
 line-fits : (j : ℕ) → j < mostLines → length (spaced j) ≤ 3
-line-fits j h = spaced-fits 8 2 j refl (omega arith) (omega arith)
+line-fits j h = spaced-fits 2 j (omega arith) (omega arith)
 
 module _ (n : ℕ) (gs : List Gate) (xs : List ℕ) (lines : n ≤ mostLines) (gates : length gs ≤ mostGates) (ok : AllOk n gs) where
   stuck-line : length (classText n gs xs 1) ≤ 24
   unfolding shown faultOf
   stuck-line =
       let many : n * suc (length gs) ≤ mostLines * levels = mul-le-mul {n₂ = mostLines} {m₂ = levels} lines (omega arith) in
-      class-fits n gs xs 1 5 5 10 refl (omega arith)
+      class-fits n gs xs 1 5 10 (omega arith)
       (rw (list-one n gs 1 refl, length-stuck n gs) (omega arith))
       (omega arith)
       (rw (list-one n gs 1 refl)
@@ -112,13 +105,13 @@ module _ (n : ℕ) (gs : List Gate) (xs : List ℕ) (lines : n ≤ mostLines) (g
         arith,
         gate-fits i (omega arith),
         line-fits j (omega (arith, site-line n gs i j (eq-eqb _ 1 b))),
-        spaced-fits 9 1 v refl (omega arith) (omega arith),
+        spaced-fits 1 v (omega arith) (omega arith),
       )))))
 
   gate-line : length (classText n gs xs 2) ≤ 17
   unfolding shown faultOf
   gate-line =
-      class-fits n gs xs 2 6 4 5 refl (omega arith)
+      class-fits n gs xs 2 4 5 (omega arith)
       (rw (list-two n gs 2 refl, length-missing-gates gs) (omega arith))
       (omega arith)
       (rw (list-two n gs 2 refl) (all-missing-gates _ gs (λ i a b. rw (spaced-one i) (gate-fits i (omega arith)))))
@@ -129,7 +122,7 @@ module _ (n : ℕ) (gs : List Gate) (xs : List ℕ) (lines : n ≤ mostLines) (g
   control-line : length (classText n gs xs 3) ≤ 22
   unfolding shown faultOf
   control-line =
-      class-fits n gs xs 3 5 5 8 refl (omega arith)
+      class-fits n gs xs 3 5 8 (omega arith)
       (rw (list-three n gs 3 refl) (omega (arith, few)))
       (omega arith)
       (rw (list-three n gs 3 refl)
@@ -138,7 +131,7 @@ module _ (n : ℕ) (gs : List Gate) (xs : List ℕ) (lines : n ≤ mostLines) (g
   extra-line : length (classText n gs xs 4) ≤ 22
   unfolding shown faultOf
   extra-line =
-      class-fits n gs xs 4 5 5 8 refl (omega arith)
+      class-fits n gs xs 4 5 8 (omega arith)
       (rw (list-four n gs 4 refl) (omega (arith, few)))
       (omega arith)
       (rw (list-four n gs 4 refl)
@@ -187,17 +180,14 @@ job-fits n classes words xs s h =
     )
     (omega (
       arith,
-      spaced-fits 8 2 n refl (omega arith) (omega (arith, s .lines-fit)),
+      spaced-fits 2 n (omega arith) (omega (arith, s .lines-fit)),
       gate-fits (length (gatesOf words)) (s .gates-fit),
-      spaced-fits 6 4 (length xs) refl (omega arith) (omega arith),
+      spaced-fits 4 (length xs) (omega arith) (omega arith),
       classes-fit n (gatesOf words) xs (s .lines-fit) (s .gates-fit) (s .gates-ok) classes,
     ))
 
-spaced-most : (x : ℕ) → length (spaced x) ≤ 11
-unfolding spaced decimal
-spaced-most x = omega (arith, digits-most 10 x)
-
-pub refused-fits : (number place : ℕ) → length (refusedText number place) ≤ longestReport
+pub refused-fits : (number place : ℕ) → number < 10 ^ 10 → place < 10 ^ 10 → length (refusedText number place) ≤ longestReport
 unfolding refusedText
-refused-fits number place =
-    rw (line-bytes 69 (each spaced (number ∷ place ∷ [])), spaced-two number place) (omega (arith, spaced-most number, spaced-most place))
+refused-fits number place h k =
+    rw (line-bytes 69 (each spaced (number ∷ place ∷ [])), spaced-two number place)
+    (omega (arith, spaced-fits 10 number (omega arith) h, spaced-fits 10 place (omega arith) k))

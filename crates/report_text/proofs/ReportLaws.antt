@@ -1,5 +1,5 @@
 -- Laws of the whole report: its text in parts, and what bytes that are read say of it.
-use Prim.Native.Nat.{ℕ, _+_, _*_, _/_, _<_, _≤_}
+use Prim.Native.Nat.{ℕ, _+_, _*_, _/_, _^_, _<_, _≤_}
 use mathlib.Core.Path.{_≡_, refl, ap, sym, _∙_}
 use mathlib.Core.Bool.{false}
 use mathlib.Core.List.{List, [], _∷_, _++_, append-assoc, append-nil}
@@ -7,23 +7,24 @@ use native.Mathlib.Omega.{arith}
 use lib.ListN.{length, take, replicate}
 use lib.Seq.{sets, take-append-seam, length-sets}
 use borrow.Author.Tests.{lt-ltb, le-ltb}
-use Rattle.basics.specs.Lists.{each}
+use Rattle.basics.specs.Lists.{each, All}
 use Rattle.refusals.specs.Tables.{Row, Told, firstOf}
 use Rattle.refusals.specs.Tables.Told.{answered, refused}
 use Rattle.refusals.specs.Checks.{fine}
-use Rattle.refusals.proofs.Tables.{refused-on, fine-on, fine-parts, after-fine, answered-fine, refused-rows}
+use Rattle.refusals.proofs.Tables.{refused-on, fine-on, fine-parts, after-fine, answered-fine, refused-rows, Small, refused-small-on}
 use Rattle.circuit.specs.Limits.{mostGates, mostVectors}
+use Rattle.circuit.specs.Rules.{firstBadGate, firstBadVector}
 use Rattle.circuit.specs.Sound.{Sound}
 use Rattle.circuit.proofs.GateLaws.{gates-count}
-use Rattle.circuit.proofs.RuleLaws.{VectorsOk}
+use Rattle.circuit.proofs.RuleLaws.{VectorsOk, first-bad-le, first-vector-le}
 use Rattle.job.specs.Image.{linesIn, classesIn, gatesIn, vectorsIn, gateWords, vectorWords}
 use Rattle.job.specs.Promises.{readTells, readLeavesGates, readLeavesVectors}
 use Rattle.job.specs.Answers.{toldRead}
 use Rattle.job.specs.declared.Read.{Read}
 use Rattle.job.specs.declared.Read.the-variants.{Job}
-use Rattle.job.specs.Rules.{readRows, headerRows, contentRowsIn, roomRows}
+use Rattle.job.specs.Rules.{readRows, headerRows, contentRows, contentRowsIn, roomRows}
 use Rattle.basics.proofs.PutLaws.{sets-append, sets-front}
-use Rattle.job.proofs.ImageLaws.{gates-front, vectors-front}
+use Rattle.job.proofs.ImageLaws.{gates-front, vectors-front, length-gate-words, length-vector-words}
 use Rattle.job.proofs.HeaderLaws.{header-ok}
 use Rattle.job.proofs.ReadLaws.{read-ok, read-set}
 use Rattle.report_text.specs.Lines.{spaced, line}
@@ -119,9 +120,37 @@ text-as text last end same h = rw (← same) h
 
 -- ---- the call
 
+-- there is room for the longest
+abbrev room : List ℕ → List Row
+room bytes = roomRows bytes (3 * mostGates) mostVectors
+
+-- a job's refusals have small numbers, and places of a gate or a vector, or the next
+header-small : (bytes : List ℕ) → All (Small (10 ^ 10)) (headerRows bytes)
+unfolding headerRows
+header-small bytes =
+    let row : (k : ℕ) → k ≤ 6 → (k < 10 ^ 10) × (0 < 10 ^ 10) = λ k h. (omega arith, omega arith) in
+    (row 1 (omega arith), (row 2 (omega arith), (row 3 (omega arith), (row 4 (omega arith), (row 5 (omega arith), (row 6 (omega arith), tt))))))
+
+content-small : (bytes : List ℕ) → fine ≡ firstOf (headerRows bytes) fine → All (Small (10 ^ 10)) (contentRowsIn bytes ++ room bytes)
+unfolding contentRows
+content-small bytes e =
+    let h = header-ok bytes e in
+    let n = linesIn bytes in
+    let xs = vectorWords bytes in
+    let gate : firstBadGate n (gateWords bytes) < 10 ^ 10 = omega (arith, first-bad-le n (gateWords bytes), length-gate-words bytes, h .gates-fit) in
+    let vector : firstBadVector n xs < 10 ^ 10 = omega (arith, first-vector-le n xs, length-vector-words bytes, h .vectors-fit) in
+    ((omega arith, gate), ((omega arith, vector), ((omega arith, omega arith), tt)))
+
+job-small : (bytes : List ℕ) (k p : ℕ) → refused k p ≡ firstOf (jobRows bytes) fine → (k < 10 ^ 10) × (p < 10 ^ 10)
+unfolding readRows
+job-small bytes k p e =
+    refused-small-on (10 ^ 10) (headerRows bytes) (contentRowsIn bytes ++ room bytes) k p (header-small bytes) (content-small bytes) e
+
 text-of-fits : (bytes : List ℕ) (told : Told) → told ≡ firstOf (jobRows bytes) fine
     → length (textOf told (jobText (linesIn bytes) (classesIn bytes) (gateWords bytes) (vectorWords bytes))) ≤ longestReport
-text-of-fits bytes (refused number place) e = refused-fits number place
+text-of-fits bytes (refused number place) e =
+    let w = job-small bytes number place e in
+    refused-fits number place (w .0) (w .1)
 text-of-fits bytes (answered values) e =
     let ok = job-set bytes (answered-fine (jobRows bytes) values [] e .1) in
     job-fits (linesIn bytes) (classesIn bytes) (gateWords bytes) (vectorWords bytes) (ok .set .circuit) (ok .set .vectors-fit)
@@ -162,10 +191,7 @@ told-fits bytes room end e =
     let same : end ≡ length (reportText bytes) = cc in
     omega (arith, same, report-fits bytes)
 
--- a job is refused by rules 1 to 8 alone: there is room for the longest
-abbrev room : List ℕ → List Row
-room bytes = roomRows bytes (3 * mostGates) mostVectors
-
+-- a job is refused by rules 1 to 8 alone
 in-parts : (bytes : List ℕ) → jobRows bytes ≡ (headerRows bytes ++ contentRowsIn bytes) ++ room bytes
 unfolding readRows
 in-parts bytes = sym (append-assoc (headerRows bytes) (contentRowsIn bytes) (room bytes))

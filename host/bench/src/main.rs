@@ -1,11 +1,14 @@
 //! Prints a table: what the proved library takes, what plain Rust takes for the same job, and the
-//! ratio of the two. Each way clears its arrays within the time that is taken.
+//! ratio of the two. Each way clears its arrays within the time that is taken. With the word `texts`
+//! it has only the jobs on texts in the .real format.
 
 mod clock;
 mod plain;
+mod texts;
 
 use clock::{keep, row, Row};
-use nufsadeem::{gate, Circuit, Job, Verdict};
+use nufsadeem::{gate, import_real, Circuit, Job, Verdict};
+use texts::texts;
 
 const RUNS: usize = 15;
 const VECTORS: usize = 2048;
@@ -22,10 +25,15 @@ fn main() {
     let wide = numbers.gates(32);
     let narrow = numbers.gates(12);
     let vectors: Vec<u32> = (0..VECTORS).map(|_| numbers.next()).collect();
-    let mut rows = judging(&wide, &vectors);
-    rows.push(covering(&wide, &vectors));
-    rows.push(compacting(&narrow));
-    rows.extend(jobs(wide, vectors));
+    let mut rows = Vec::new();
+    if std::env::args().nth(1).as_deref() != Some("texts") {
+        rows.extend(judging(&wide, &vectors));
+        rows.push(covering(&wide, &vectors));
+        rows.push(compacting(&narrow));
+        rows.extend(jobs(wide, vectors));
+    }
+    rows.extend(importing(&texts(&mut numbers)));
+    rows.push(exporting());
     print(&rows);
 }
 
@@ -101,6 +109,26 @@ fn jobs(gates: Vec<u32>, vectors: Vec<u32>) -> Vec<Row> {
         || plain::report(keep(&image)),
     );
     vec![read, write, report]
+}
+
+fn importing(texts: &[(&str, String)]) -> Vec<Row> {
+    let rows = texts.iter().map(|(job, text)| {
+        let text = text.as_bytes();
+        let library = || {
+            let read = import_real(keep(text));
+            let read = read.map(|read| (read.lines, read.gates));
+            read.map_err(|refusal| (refusal.number, refusal.place))
+        };
+        row(job, RUNS, library, || plain::import(keep(text)))
+    });
+    rows.collect()
+}
+
+fn exporting() -> Row {
+    let gates = [u32::MAX >> 1, 0, 31].repeat(GATES);
+    let library = || Circuit::new(32, keep(&gates)).export_real().ok();
+    let plain = || plain::export(32, keep(&gates));
+    row("export the longest text", RUNS, library, plain)
 }
 
 fn as_plain(verdict: Verdict) -> plain::Verdict {

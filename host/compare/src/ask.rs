@@ -4,7 +4,7 @@
 use crate::case::{Case, Question};
 use crate::lent::Lent;
 use model::{Job, Told};
-use nufsadeem::{raw, Circuit, Fault, JobHead, Refusal, Verdict};
+use nufsadeem::{raw, Circuit, CircuitHead, Fault, JobHead, Refusal, Verdict};
 use std::fmt::Debug;
 use std::ptr;
 
@@ -33,6 +33,8 @@ pub fn ask(case: &Case) -> Result<u64, String> {
             vector_room,
         } => read_job(bytes, *gate_room, *vector_room),
         Question::Report { bytes, room } => report(bytes, *room),
+        Question::ImportReal { text, room } => import_real(text, *room),
+        Question::ExportReal { room } => export_real(lines, gates, *room),
     }?;
     if lent == *case {
         Ok(calls)
@@ -319,6 +321,51 @@ fn report(bytes: &[u8], room: usize) -> Result<u64, String> {
     let call = "report_into";
     let mut lent = Lent::bytes(room);
     let safe = nufsadeem::report_into(bytes, lent.lend());
+    same(call, safe, result(told.map(|text| text.len())))?;
+    lent.must_hold(call, &written)?;
+    Ok(1)
+}
+
+fn import_real(text: &[u8], room: usize) -> Result<u64, String> {
+    let told = model::import_real(text, room);
+    let written = match &told {
+        Ok(circuit) => circuit.words(),
+        Err(_) => vec![],
+    };
+    let call = "nuf_import_real";
+    let mut lent = Lent::words(room);
+    let (g, g_len) = (start_mut(lent.lend()), room);
+    let read = unsafe { raw::nuf_import_real(start(text), text.len(), g, g_len) };
+    let fields = [read.number, read.place, read.lines, read.gates];
+    let expected = answer(&told, |circuit| {
+        [0, 0, circuit.lines, circuit.depth() as u32]
+    });
+    same(call, fields, expected)?;
+    lent.must_hold(call, &written)?;
+    let call = "import_real_into";
+    let mut lent = Lent::words(room);
+    let safe = nufsadeem::import_real_into(text, lent.lend());
+    let head = |circuit: model::Circuit| CircuitHead {
+        lines: circuit.lines,
+        gates: circuit.depth(),
+    };
+    same(call, safe, result(told.map(head)))?;
+    lent.must_hold(call, &written)?;
+    Ok(1)
+}
+
+fn export_real(lines: u32, gates: &[u32], room: usize) -> Result<u64, String> {
+    let told = model::export_real(lines, gates, room).map(String::into_bytes);
+    let written = told.clone().unwrap_or_default();
+    let call = "nuf_export_real";
+    let mut lent = Lent::bytes(room);
+    let (o, o_len) = (start_mut(lent.lend()), room);
+    let count = unsafe { raw::nuf_export_real(lines, start(gates), gates.len(), o, o_len) };
+    same(call, count_fields(count), counted(&told))?;
+    lent.must_hold(call, &written)?;
+    let call = "Circuit::export_real_into";
+    let mut lent = Lent::bytes(room);
+    let safe = Circuit::new(lines, gates).export_real_into(lent.lend());
     same(call, safe, result(told.map(|text| text.len())))?;
     lent.must_hold(call, &written)?;
     Ok(1)

@@ -4,7 +4,11 @@ use crate::case::Question;
 use crate::samples::{sample_gates, LINES};
 use crate::tally::Tally;
 use inputs::{make, Random};
-use model::{compact_bound, image_of, Job};
+use model::{compact_bound, export_real, image_of, Job};
+use nufsadeem::Circuit;
+
+/// The bytes of the longest text of a circuit, as include/nufsadeem.h has it.
+const LONGEST_REAL: usize = 125_094;
 
 pub fn compare(tally: &mut Tally) -> Result<(), String> {
     numbers_of_lines(tally)?;
@@ -19,7 +23,8 @@ pub fn compare(tally: &mut Tally) -> Result<(), String> {
     entries(tally)?;
     lists(tally)?;
     classes_wanted(tally)?;
-    longest_job(tally)
+    longest_job(tally)?;
+    longest_text(tally)
 }
 
 fn numbers_of_lines(tally: &mut Tally) -> Result<(), String> {
@@ -138,6 +143,9 @@ fn rooms(tally: &mut Tally) -> Result<(), String> {
         };
         tally.circuit(LINES, &sample_gates(), asked)?;
     }
+    for room in 0..=90 {
+        tally.circuit(LINES, &sample_gates(), Question::ExportReal { room })?;
+    }
     Ok(())
 }
 
@@ -240,6 +248,23 @@ fn longest_job(tally: &mut Tally) -> Result<(), String> {
     job_calls(tally, 32, &gates, &vectors, 15)
 }
 
+/// Circuits whose texts are as long as texts of so many gates can be: the header's figure, and the wrapper's room for them.
+fn longest_text(tally: &mut Tally) -> Result<(), String> {
+    let gates = [u32::MAX >> 1, 0, 31].repeat(1024);
+    text_calls(tally, 32, &gates)?;
+    let longest = Circuit::new(32, &gates).export_real();
+    tally.holds(longest.map(|text| text.len()) == Ok(LONGEST_REAL), || {
+        format!("the longest text has not {} bytes", LONGEST_REAL)
+    })?;
+    for depth in [0, 1, 2, 1023] {
+        let text = Circuit::new(32, &gates[..3 * depth]).export_real();
+        tally.holds(text.is_ok(), || {
+            format!("the wrapper has no room for {} gates", depth)
+        })?;
+    }
+    Ok(())
+}
+
 /// Every call that takes a circuit, and every call that takes a set.
 fn every_call(tally: &mut Tally, lines: u32, gates: &[u32], vectors: &[u32]) -> Result<(), String> {
     let depth = gates.len() / 3;
@@ -274,7 +299,20 @@ fn every_call(tally: &mut Tally, lines: u32, gates: &[u32], vectors: &[u32]) -> 
     for room in [bound - 1, bound, bound + 1] {
         tally.circuit(lines, gates, Question::CompactSet { room })?;
     }
+    text_calls(tally, lines, gates)?;
     every_set_call(tally, lines, gates, vectors)
+}
+
+/// Writing the text and reading it, with room one short, exact and one more.
+fn text_calls(tally: &mut Tally, lines: u32, gates: &[u32]) -> Result<(), String> {
+    let text = export_real(lines, gates, usize::MAX).unwrap_or_default();
+    for room in around(text.len()) {
+        tally.circuit(lines, gates, Question::ExportReal { room })?;
+    }
+    for room in around(gates.len()) {
+        tally.text(text.as_bytes(), room)?;
+    }
+    Ok(())
 }
 
 fn every_set_call(

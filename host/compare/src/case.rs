@@ -60,6 +60,13 @@ pub enum Question {
         bytes: Vec<u8>,
         room: usize,
     },
+    ImportReal {
+        text: Vec<u8>,
+        room: usize,
+    },
+    ExportReal {
+        room: usize,
+    },
 }
 
 impl Case {
@@ -71,8 +78,8 @@ impl Case {
         }
     }
 
-    /// A case that takes a job image and no circuit.
-    pub fn of_image(question: Question) -> Case {
+    /// A case that takes a job image or a text, and no circuit.
+    pub fn of_bytes(question: Question) -> Case {
         Case::of_circuit(0, &[], question)
     }
 
@@ -102,6 +109,10 @@ impl Case {
 
 impl fmt::Display for Case {
     fn fmt(&self, f: &mut fmt::Formatter<'_>) -> fmt::Result {
+        if let Question::ImportReal { text, room } = &self.question {
+            writeln!(f, "text: {}", text.escape_ascii())?;
+            return write!(f, "asked: ImportReal {{ room: {} }}", room);
+        }
         let hex: Vec<String> = self
             .image()
             .iter()

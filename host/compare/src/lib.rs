@@ -4,6 +4,7 @@
 mod ask;
 mod borders;
 mod case;
+mod form;
 mod images;
 mod lent;
 mod longest_report;
@@ -11,15 +12,18 @@ mod rounds;
 mod samples;
 mod small;
 mod tally;
+mod texts;
 
 pub use tally::Tally;
 
 /// Cases that are the same in every run, by subject.
-pub const FIXED: [(&str, Part); 5] = [
+pub const FIXED: [(&str, Part); 7] = [
     ("the samples", samples::compare),
     ("small circuits", small::compare),
     ("damaged images", images::compare),
     ("borders", borders::compare),
+    ("damaged texts", texts::compare),
+    ("the form of a text", form::compare),
     ("the longest report", longest_report::compare),
 ];
 

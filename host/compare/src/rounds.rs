@@ -3,8 +3,8 @@
 use crate::case::Question;
 use crate::tally::Tally;
 use inputs::make::{self, Drawn};
-use inputs::Random;
-use model::{compact_bound, image_of};
+use inputs::{damage_text, damaged_text, good_text, Random};
+use model::{compact_bound, export_real, image_of, import_real};
 use nufsadeem::{Circuit, Class};
 
 /// The simulator's compact set runs each fault on each input; larger circuits take too long.
@@ -24,6 +24,7 @@ pub fn compare(tally: &mut Tally, seed: u64, rounds: u64) -> Result<(), String> 
         faults(tally, &mut random, &drawn)?;
         sets(tally, &mut random, &drawn)?;
         jobs(tally, &mut random, &drawn)?;
+        real_texts(tally, &mut random, &drawn)?;
     }
     Ok(())
 }
@@ -99,6 +100,34 @@ fn jobs(tally: &mut Tally, random: &mut Random, drawn: &Drawn) -> Result<(), Str
     Ok(())
 }
 
+/// The circuit as a text, whole and damaged, and texts that no export makes.
+fn real_texts(tally: &mut Tally, random: &mut Random, drawn: &Drawn) -> Result<(), String> {
+    let (lines, gates) = (drawn.lines, &drawn.gates[..]);
+    let exported = export_real(lines, gates, usize::MAX).unwrap_or_default();
+    let room = make::room(random, exported.len());
+    tally.circuit(lines, gates, Question::ExportReal { room })?;
+    let mut exported = exported.into_bytes();
+    tally.text(&exported, make::room(random, gates.len()))?;
+    damage_text(random, &mut exported);
+    tally.text(&exported, gates.len())?;
+    for _ in 0..2 {
+        real_text(tally, random, good_text)?;
+        real_text(tally, random, damaged_text)?;
+        real_text(tally, random, damaged_text)?;
+    }
+    Ok(())
+}
+
+fn real_text(
+    tally: &mut Tally,
+    random: &mut Random,
+    drawn: fn(&mut Random) -> Vec<u8>,
+) -> Result<(), String> {
+    let text = drawn(random);
+    let needed = import_real(&text, usize::MAX).map_or(3, |circuit| 3 * circuit.depth());
+    tally.text(&text, make::room(random, needed))
+}
+
 /// What the library's own answers must have to do with each other, for a circuit that is sound.
 fn properties(tally: &mut Tally, random: &mut Random, drawn: &Drawn) -> Result<(), String> {
     let circuit = Circuit::new(drawn.lines, &drawn.gates);
@@ -130,6 +159,12 @@ fn properties(tally: &mut Tally, random: &mut Random, drawn: &Drawn) -> Result<(
         test.and_then(|vector| circuit.catches(vector, fault)) == Ok(true),
         || format!("{:?}: the test for {} does not catch it", circuit, fault),
     )?;
+    let text = circuit.export_real();
+    let read = text.and_then(|text| nufsadeem::import_real(text.as_bytes()));
+    let back = read.as_ref().map(|read| read.circuit());
+    tally.holds(back == Ok(circuit), || {
+        format!("{:?}: importing its text does not give it back", circuit)
+    })?;
     let set = circuit.backward_set();
     let verdict = set.and_then(|set| circuit.judge(&set, Class::StuckAt));
     tally.holds(verdict.map(|v| v.is_complete()) == Ok(true), || {

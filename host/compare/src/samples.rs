@@ -1,7 +1,9 @@
-//! The samples of docs/SCOPE.md, with the answers that it prints. Here the simulator has no say.
+//! The samples of docs/SCOPE.md, with the answers that it prints, and texts whose answers are written by hand. Here the simulator
+//! has no say.
 
 use crate::tally::Tally;
-use nufsadeem::{gate, report, Circuit, Class, Fault, Job, Refusal};
+use inputs::{REAL_SAMPLES, SAMPLE_REAL};
+use nufsadeem::{gate, import_real, report, Circuit, Class, Fault, Job, Refusal};
 use std::fmt::Debug;
 
 pub const LINES: u32 = 3;
@@ -30,6 +32,7 @@ pub fn compare(tally: &mut Tally) -> Result<(), String> {
     verdicts(tally, circuit)?;
     catching(tally, circuit)?;
     jobs(tally)?;
+    texts(tally, circuit)?;
     is(
         tally,
         "backward set",
@@ -149,6 +152,19 @@ fn jobs(tally: &mut Tally) -> Result<(), String> {
         report(&SAMPLE_IMAGE[..27]),
         "E 1 0\n".to_string(),
     )
+}
+
+fn texts(tally: &mut Tally, circuit: Circuit) -> Result<(), String> {
+    let written = Ok(SAMPLE_REAL.to_string());
+    is(tally, "export", circuit.export_real(), written)?;
+    for (text, right) in REAL_SAMPLES {
+        let read = import_real(text);
+        let told = read.as_ref().map(|read| (read.lines, &read.gates[..]));
+        let told = told.map_err(|refusal| (refusal.number, refusal.place));
+        let words = format!("import of {}", text.escape_ascii());
+        is(tally, &words, told, *right)?;
+    }
+    Ok(())
 }
 
 fn is<T: PartialEq + Debug>(

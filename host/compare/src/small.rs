@@ -4,7 +4,7 @@ use crate::case::Question;
 use crate::samples::{sample_gates, LINES};
 use crate::tally::Tally;
 use inputs::make::ones;
-use model::compact_bound;
+use model::{compact_bound, export_real};
 
 pub fn compare(tally: &mut Tally) -> Result<(), String> {
     every_run(tally)?;
@@ -90,6 +90,10 @@ fn one_circuit(tally: &mut Tally, lines: u32, gates: &[u32]) -> Result<(), Strin
     tally.circuit(lines, gates, Question::BackwardSet { room })?;
     let room = compact_bound(lines, depth);
     tally.circuit(lines, gates, Question::CompactSet { room })?;
+    let text = export_real(lines, gates, usize::MAX).unwrap_or_default();
+    let room = text.len();
+    tally.circuit(lines, gates, Question::ExportReal { room })?;
+    tally.text(text.as_bytes(), gates.len())?;
     for class in 1..=4 {
         for vector in 0..=ones(lines) {
             let vectors = vec![vector, 0];

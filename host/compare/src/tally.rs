@@ -39,7 +39,13 @@ impl Tally {
     }
 
     pub fn image(&mut self, asked: Question) -> Result<(), String> {
-        self.case(Case::of_image(asked))
+        self.case(Case::of_bytes(asked))
+    }
+
+    /// The import of a text, with room for so many words of gates.
+    pub fn text(&mut self, text: &[u8], room: usize) -> Result<(), String> {
+        let text = text.to_vec();
+        self.case(Case::of_bytes(Question::ImportReal { text, room }))
     }
 
     fn case(&mut self, case: Case) -> Result<(), String> {

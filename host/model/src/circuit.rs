@@ -24,6 +24,10 @@ impl Gate {
         }
     }
 
+    pub fn words(self) -> [u32; 3] {
+        [self.controls, self.spare, self.target]
+    }
+
     pub fn is_control(self, line: u32) -> bool {
         has(self.controls, line)
     }
@@ -57,6 +61,11 @@ impl Circuit {
         refuse_first(7, &gates, |gate| gate.is_bad(lines))?;
         refuse(7, whole + 1, words.len() % 3 != 0)?;
         Ok(Circuit { lines, gates })
+    }
+
+    /// The gates as they are lent.
+    pub fn words(&self) -> Vec<u32> {
+        self.gates.iter().flat_map(|gate| gate.words()).collect()
     }
 
     pub fn depth(&self) -> usize {

@@ -6,6 +6,15 @@ const MOST_LINES: u32 = 32;
 /// The most vectors a compact set can have: 2 + floor(log2 S), with S at 12 lines and 1,024 gates.
 const LARGEST_COMPACT_SET: usize = 15;
 
+/// The most gates a circuit can have.
+pub(crate) const MOST_GATES: usize = 1024;
+
+/// The bytes of the longest text of a circuit of no gates, which has 32 lines.
+const LONGEST_FRAME: usize = 166;
+
+/// The bytes of the longest gate of a text, which is on all 32 lines.
+const LONGEST_GATE: usize = 122;
+
 /// The three words of a gate, in the order of the job image. A line of 32 or above is in no circuit and in no
 /// mask, and gets the refusal of a bad gate, 7 at place 1. What else a gate must be is for each call to say.
 pub fn gate(controls: &[u32], target: u32) -> Result<[u32; 3], Refusal> {
@@ -152,6 +161,19 @@ impl<'a> Circuit<'a> {
     /// The same over a list of plain numbers, four a fault.
     pub fn drop_caught_words(&self, vector: u32, list: &mut [u32]) -> Result<usize, Refusal> {
         count(unsafe { ask!(self, nuf_drop, vector, list.as_mut_ptr(), list.len()) })
+    }
+
+    /// The circuit as a text in the .real format, with lines `x0`, `x1` and so on.
+    pub fn export_real(&self) -> Result<String, Refusal> {
+        let depth = (self.gates.len() / 3).min(MOST_GATES);
+        let mut text = vec![0; LONGEST_FRAME + LONGEST_GATE * depth];
+        let length = self.export_real_into(&mut text)?;
+        Ok(String::from_utf8_lossy(&text[..length]).into_owned())
+    }
+
+    /// The same text, written to the front of `out`; answers with its length.
+    pub fn export_real_into(&self, out: &mut [u8]) -> Result<usize, Refusal> {
+        count(unsafe { ask!(self, nuf_export_real, out.as_mut_ptr(), out.len()) })
     }
 }
 

@@ -17,11 +17,13 @@ mod circuit;
 mod fault;
 mod job;
 pub mod raw;
+mod real;
 mod refusal;
 mod verdict;
 
 pub use circuit::{gate, Circuit};
 pub use fault::{Class, Fault};
 pub use job::{read_job_into, report, report_into, Job, JobHead, LONGEST_REPORT};
+pub use real::{import_real, import_real_into, CircuitHead, OwnedCircuit};
 pub use refusal::Refusal;
 pub use verdict::Verdict;

@@ -51,6 +51,15 @@ pub struct Job {
 
 #[repr(C)]
 #[derive(Clone, Copy, PartialEq, Eq, Debug)]
+pub struct Circuit {
+    pub number: u32,
+    pub place: u32,
+    pub lines: u32,
+    pub gates: u32,
+}
+
+#[repr(C)]
+#[derive(Clone, Copy, PartialEq, Eq, Debug)]
 pub struct Verdict {
     pub number: u32,
     pub place: u32,
@@ -170,4 +179,19 @@ extern "C" {
     ) -> Count;
 
     pub fn nuf_report(bytes: *const u8, bytes_len: usize, out: *mut u8, out_len: usize) -> Count;
+
+    pub fn nuf_import_real(
+        text: *const u8,
+        text_len: usize,
+        gates: *mut u32,
+        gates_len: usize,
+    ) -> Circuit;
+
+    pub fn nuf_export_real(
+        lines: u32,
+        gates: *const u32,
+        gates_len: usize,
+        out: *mut u8,
+        out_len: usize,
+    ) -> Count;
 }

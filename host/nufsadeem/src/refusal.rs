@@ -4,7 +4,7 @@ use std::fmt;
 #[derive(Clone, Copy, PartialEq, Eq, Hash, Debug)]
 pub struct Refusal {
     pub number: u32,
-    /// Which gate, vector or fault, counted from 1; 0 where the rule names none.
+    /// Which gate, vector, fault or line of a text, counted from 1; 0 where the rule names none.
     pub place: u32,
 }
 
@@ -24,6 +24,8 @@ impl Refusal {
             11 => "a compact set is made for at most 12 lines",
             12 => "the level is behind the last gate",
             13 => "a multiple fault needs 1 to 256 entries, each at a site of its own",
+            14 => "a line of the text is not of the .real form, or .end is missing",
+            15 => "a line of the text has a gate that begins with a letter other than t",
             _ => "the refusal has an unknown number",
         }
     }

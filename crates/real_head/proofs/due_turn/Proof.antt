@@ -1,6 +1,5 @@
 -- `real_head::due_turn` meets its contract: in each stage the line is read by that stage's own function. Assumes nothing.
-use mathlib.Core.Path.{_≡_, sym, ap, _∙_, subst}
-use native.Mathlib.Omega.{arith}
+use mathlib.Core.Path.{sym, ap, _∙_, subst}
 use borrow.Author.Needs.{needs}
 use Rattle.text.specs.Texts.{ascii}
 use Rattle.text_words.specs.Words.{wordsOf}

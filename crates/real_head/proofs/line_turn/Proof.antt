@@ -1,4 +1,4 @@
--- `real_head::line_turn` meets its contract: a line with no word or with a first word that begins with # is skipped, and any other is read by its stage.
+-- `real_head::line_turn` meets its contract: a line with no word, or whose first word begins with #, is skipped, and any other is read by its stage.
 -- Assumes nothing.
 use Prim.Native.Nat.{ℕ}
 use mathlib.Core.Path.{_≡_, refl, sym, ap, _∙_}

@@ -1,17 +1,16 @@
 -- `real_head::optional` meets its contract: each of the four parts leads on where it may still come, and any other word is refused. Assumes nothing.
-use mathlib.Core.Path.{_≡_, sym, ap, _∙_}
-use mathlib.Core.Bool.{true, false, and-true, and-false}
+use mathlib.Core.Path.{_≡_, sym, _∙_}
+use mathlib.Core.Bool.{true, false}
 use mathlib.Core.List.{List}
 use borrow.Author.Needs.{needs}
 use borrow.Author.Tests.{not-true, not-false}
 use Rattle.text.specs.Texts.{ascii, same}
 use Rattle.text_words.specs.Words.{wordsOf}
-use Rattle.real.specs.Form.{Word, when}
-use Rattle.real.specs.Form.Stage.{named}
+use Rattle.real.specs.Form.{Word}
 use Rattle.real_head.specs.declared.Due.the-variants as due
-use Rattle.real_head.specs.Stages.{namesIn, partsIn}
+use Rattle.real_head.specs.Stages.{namesIn}
 use Rattle.real_head.proofs.TurnLaws.{stops-turn, when-turn}
-use Rattle.real_head.proofs.PartLaws.{next-as, inputs-next, outputs-next, garbage-next, constants-next, none-next}
+use Rattle.real_head.proofs.PartLaws.{next-as, inputs-next, outputs-next, garbage-next, constants-next, constants-wrong, none-next}
 use Rattle.real_head.proofs.optional.Statement.{statement}
 use Rattle.real_head.proofs.optional.Tie as tie
 
@@ -140,9 +139,8 @@ returns-5 c =
     let a = s .args in
     stops-turn (a .text .now) _ 14
     (next-as _ (a .word .now) (ascii ".constants") (more s) _ (is-word w)
-    (constants-next (names s) (more s) (a .inputs) (a .outputs) (a .garbage) (a .constants) false
-    (sym (c .before .is-constants .ensures) ∙ not-true _ (c .if5 .taken))
-    ∙ ap (λ b. when b (named (names s) (partsIn (a .inputs) (a .outputs) (a .garbage) false))) (and-false (a .constants))))
+    (constants-wrong (names s) (more s) (a .inputs) (a .outputs) (a .garbage) (a .constants)
+    (sym (c .before .is-constants .ensures) ∙ not-true _ (c .if5 .taken))))
 
 when-requires-4 : tie.Need-when-requires-4
 when-requires-4 c κs = search needs
@@ -155,9 +153,8 @@ returns-6 c =
     let a = s .args in
     when-turn (a .text .now) _ (a .constants) (due.Part (a .from) (a .to) (a .inputs) (a .outputs) (a .garbage) false) _ (c .when4 .ensures)
     (next-as _ (a .word .now) (ascii ".constants") (more s) _ (is-word w)
-    (constants-next (names s) (more s) (a .inputs) (a .outputs) (a .garbage) (a .constants) true
-    (sym (told .before .is-constants .ensures) ∙ not-false _ (told .if5 .left))
-    ∙ ap (λ b. when b (named (names s) (partsIn (a .inputs) (a .outputs) (a .garbage) false))) (and-true (a .constants))))
+    (constants-next (names s) (more s) (a .inputs) (a .outputs) (a .garbage) (a .constants)
+    (sym (told .before .is-constants .ensures) ∙ not-false _ (told .if5 .left))))
     (s .pre .0)
 
 pub optional-spec : {M : Type 1} → statement M

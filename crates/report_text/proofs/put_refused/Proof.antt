@@ -13,7 +13,8 @@ slice-aggregate-put-line c = search needs
 put-line-requires : tie.Need-put-line-requires
 put-line-requires c κs =
     let a = c .before .before .args .refusal in
-    room-as 0 _ (refused-line (a .number) (a .place)) (omega (arith, refused-fits (a .number) (a .place)))
+    room-as 0 _ (refused-line (a .number) (a .place))
+    (omega (arith, refused-fits (a .number) (a .place) (omega arith) (omega arith)))
 
 returns : tie.Need-returns
 returns c =

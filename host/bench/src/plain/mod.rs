@@ -4,11 +4,13 @@ mod compact;
 mod cover;
 mod job;
 mod judge;
+mod real;
 
 pub use compact::compact_set;
 pub use cover::cover;
 pub use job::{read, report, write, Job};
 pub use judge::judge;
+pub use real::{export, import};
 
 /// What both sides are asked for: caught, in the class, and the first uncaught fault.
 pub type Verdict = (u32, u32, Option<[u32; 4]>);

@@ -4,7 +4,7 @@ use Rattle.refusals.specs.Tables.{firstOf}
 use Rattle.refusals.specs.Checks.{fine, found}
 use Rattle.circuit.specs.Rules.{circuitRows}
 use Rattle.circuit.proofs.RuleLaws.{sound}
-use Rattle.real_export.proofs.RuleLaws.{circuit-refused, room-tested}
+use Rattle.real_export.proofs.RuleLaws.{circuit-refused, room-short, room-enough}
 use borrow.Author.Needs.{needs}
 use Rattle.real_export.proofs.rules.check_export.Statement.{statement}
 use Rattle.real_export.proofs.rules.check_export.Tie as tie
@@ -34,9 +34,6 @@ enum-told c = search needs
 text-length-requires : tie.Need-text-length-requires
 text-length-requires c κs = let a = entry (passing c) .args in sound (a .lines) (a .gates .now) (passed c)
 
-unless-requires : tie.Need-unless-requires
-unless-requires c κs = search needs
-
 returns : tie.Need-returns
 returns c =
     let a = entry (refusing c) .args in
@@ -44,9 +41,15 @@ returns c =
 
 returns-2 : tie.Need-returns-2
 returns-2 c =
-    let told = c .before .before in
-    let a = entry (passing told) .args in
-    room-tested (a .lines) (a .gates .now) (a .room) _ _ (passed told) (c .before .text-length .ensures) (c .unless .ensures)
+    let measured = c .before in
+    let a = entry (passing (measured .before)) .args in
+    room-short (a .lines) (a .gates .now) (a .room) _ (passed (measured .before)) (measured .text-length .ensures) (c .if1 .taken)
+
+returns-3 : tie.Need-returns-3
+returns-3 c =
+    let measured = c .before in
+    let a = entry (passing (measured .before)) .args in
+    room-enough (a .lines) (a .gates .now) (a .room) _ (passed (measured .before)) (measured .text-length .ensures) (c .if1 .left)
 
 pub check-export-spec : {M : Type 1} → statement M
 check-export-spec =
@@ -54,8 +57,8 @@ check-export-spec =
     (tie.spec
     check-circuit-requires
     enum-known-refusal
+    returns
     enum-told
     text-length-requires
-    unless-requires
-    returns
-    returns-2)
+    returns-2
+    returns-3)
