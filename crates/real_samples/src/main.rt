@@ -11,42 +11,25 @@ fn say_number(number: u32) {
     io::print_decimal(1, number as u64);
 }
 
-fn say_refused(refusal: Refusal) {
-    say(b"refused ");
-    say_number(refusal.number);
-    say(b" at ");
-    say_number(refusal.place);
-}
-
-fn say_words(words: &[u32]) {
+fn say_numbers(numbers: &[u32]) {
     let mut i = 0;
-    while i < words.len() {
+    while i < numbers.len() {
         say(b" ");
-        say_number(words[i]);
+        say_number(numbers[i]);
         i += 1;
     }
 }
 
-// A text on one line, with a bar for each LF.
-fn say_text(text: &[u8]) {
-    let mut i = 0;
-    while i < text.len() {
-        if text[i] == b'\n' {
-            say(b"|");
-        } else {
-            say(&text[i..i + 1]);
-        }
-        i += 1;
-    }
+fn say_refused(refusal: Refusal) {
+    say(b"refused");
+    say_numbers(&[refusal.number, refusal.place]);
 }
 
 fn say_imported(imported: Imported) {
     match imported {
         Imported::Circuit { lines, gates } => {
-            say(b"lines ");
-            say_number(lines);
-            say(b", gates ");
-            say_number(gates);
+            say(b"read");
+            say_numbers(&[lines, gates]);
         }
         Imported::Refused(refusal) => say_refused(refusal),
     }
@@ -57,25 +40,25 @@ fn read(text: &[u8], room: &mut [u32]) -> Imported {
     let imported = real_import::import(text, room);
     say_imported(imported);
     say(b", room");
-    say_words(room);
+    say_numbers(room);
     imported
 }
 
 // The text that was written, and what it is read as, into room for two gates.
-fn show_again(text: &[u8; 400], count: u32) {
+fn show_again(text: &[u8; 186], count: u32) {
     let whole: &[u8] = text;
     let end = count as usize;
     let mut room = [9u32; 6];
     if end <= whole.len() {
-        say_text(&whole[0..end]);
-        say(b"; read again ");
+        say(&whole[0..end]);
+        say(b"again ");
         read(&whole[0..end], &mut room);
     }
 }
 
 fn show_written(lines: u32, gates: &[u32]) {
-    let mut text = [9u8; 400];
-    say(b"; written ");
+    let mut text = [9u8; 186];
+    say(b", written\n");
     match real_export::export(lines, gates, &mut text) {
         Exported::Bytes(count) => show_again(&text, count),
         Exported::Refused(refusal) => say_refused(refusal),
@@ -119,7 +102,7 @@ fn show_each(list: &[u8]) {
     }
 }
 
-// Texts of the form.
+// Texts of the form; that of 32 names is as long as there is room for.
 fn forms() {
     show_each(
         b"the sample circuit: %.version 1.0\n.numvars 3\n.variables x0 x1 x2\n.begin\nt3 x0 x1 x2\nt2 x0 x1\n.end\n%\
@@ -131,7 +114,9 @@ fn forms() {
           controls that fall: %.version 1.0\n.numvars 3\n.variables a b c\n.begin\nt3 c a b\n.end\n%\
           no gates: %.version 1.0\n.numvars 2\n.variables a b\n.begin\n.end\n%\
           32 names: %.version 1.0\n.numvars 32\n.variables x0 x1 x2 x3 x4 x5 x6 x7 x8 x9 x10 x11 x12 x13 x14 x15 x16 x17 x18 \
-              x19 x20 x21 x22 x23 x24 x25 x26 x27 x28 x29 x30 x31\n.begin\nt2 x31 x0\nt2 x0 x31\n.end\n%",
+              x19 x20 x21 x22 x23 x24 x25 x26 x27 x28 x29 x30 x31\n.begin\nt2 x31 x0\nt2 x0 x31\n.end\n%\
+          32 names, a byte more: %.version 1.0\n.numvars 32\n.variables x0 x1 x2 x3 x4 x5 x6 x7 x8 x9 x10 x11 x12 x13 x14 x15 x16 \
+              x17 x18 x19 x20 x21 x22 x23 x24 x25 x26 x27 x28 x29 x30 x31\n.begin\nt2 x31 x0\nt2 x10 x31\n.end\n%",
     );
 }
 
@@ -193,10 +178,9 @@ fn gates() {
 fn circuits() {
     show_each(
         b".numvars 0: %.version 1.0\n.numvars 0\n.variables\n.begin\n.end\n%\
+          .numvars 0, no .end: %.version 1.0\n.numvars 0\n.variables\n.begin\n%\
           33 names: %.version 1.0\n.numvars 33\n.variables x0 x1 x2 x3 x4 x5 x6 x7 x8 x9 x10 x11 x12 x13 x14 x15 x16 x17 x18 \
               x19 x20 x21 x22 x23 x24 x25 x26 x27 x28 x29 x30 x31 x32\n.begin\n.end\n%\
-          33 names, no .end: %.version 1.0\n.numvars 33\n.variables x0 x1 x2 x3 x4 x5 x6 x7 x8 x9 x10 x11 x12 x13 x14 x15 x16 \
-              x17 x18 x19 x20 x21 x22 x23 x24 x25 x26 x27 x28 x29 x30 x31 x32\n.begin\n%\
           a target among its controls: %.version 1.0\n.numvars 2\n.variables a b\n.begin\nt1 a\nt3 a b b\n.end\n%\
           a target among its controls, no .end: %.version 1.0\n.numvars 2\n.variables a b\n.begin\nt1 a\nt3 a b b\n%\
           room for a word less: %.version 1.0\n.numvars 2\n.variables a b\n.begin\nt1 a\nt2 a b\nt1 b\n.end\n%\
@@ -205,64 +189,25 @@ fn circuits() {
     );
 }
 
-fn show_many(asked: &[u8], text: &[u8; 6200]) {
+fn show_many(asked: &[u8], text: &[u8; 6206]) {
     let mut room = [9u32; 3072];
     say(asked);
     say_imported(real_import::import(text, &mut room));
     say(b"\n");
 }
 
-fn show_length(asked: &[u8], exported: Exported) {
-    say(asked);
-    match exported {
-        Exported::Bytes(count) => {
-            say_number(count);
-            say(b" bytes");
-        }
-        Exported::Refused(refusal) => say_refused(refusal),
-    }
-    say(b"\n");
-}
-
-// As many gates as a circuit may have, and one more, written over .end; blank lines follow.
+// As many gates as a circuit may have; then the last, which has two controls, cut in two.
 fn limits() {
-    let most = [0u32; 3072];
-    let mut text = [10u8; 6200];
-    show_length(
-        b"1,024 gates written: ",
-        real_export::export(1, &most, &mut text),
-    );
+    let mut gates = [0u32; 3072];
+    let mut text = [10u8; 6206];
+    gates[3069] = 6;
+    real_export::export(3, &gates, &mut text);
     show_many(b"1,024 gates: ", &text);
-    text[6189] = b't';
     text[6190] = b'1';
-    text[6191] = b' ';
-    text[6192] = b'x';
-    text[6193] = b'0';
-    text[6195] = b'.';
-    text[6196] = b'e';
-    text[6197] = b'n';
-    text[6198] = b'd';
+    text[6194] = b'\n';
+    text[6195] = b't';
+    text[6196] = b'1';
     show_many(b"1,025 gates: ", &text);
-}
-
-// Room for the text of the sample circuit, and one byte less; 7 comes before 10.
-fn writing() {
-    let sample = [3u32, 0, 2, 1, 0, 1];
-    let wrong = [3u32, 0, 1, 1, 0, 1];
-    let mut text = [9u8; 77];
-    let mut short = [9u8; 76];
-    show_length(
-        b"room for the text: ",
-        real_export::export(3, &sample, &mut text),
-    );
-    show_length(
-        b"room for a byte less: ",
-        real_export::export(3, &sample, &mut short),
-    );
-    show_length(
-        b"room for a byte less, a target among its controls: ",
-        real_export::export(3, &wrong, &mut short),
-    );
 }
 
 fn main() {
@@ -272,5 +217,4 @@ fn main() {
     gates();
     circuits();
     limits();
-    writing();
 }

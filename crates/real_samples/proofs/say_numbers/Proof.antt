@@ -1,15 +1,15 @@
--- `real_samples::say_words` is safe: each index is below the length. Assumes nothing.
+-- `real_samples::say_numbers` is safe: each index is below the length. Assumes nothing.
 use Prim.Native.Nat.{_≤_, _-_}
 use lib.ListN.{length}
 use borrow.Author.Needs.{needs}
-use Rattle.real_samples.proofs.say_words.Statement.{statement}
-use Rattle.real_samples.proofs.say_words.Tie as tie
+use Rattle.real_samples.proofs.say_numbers.Statement.{statement}
+use Rattle.real_samples.proofs.say_numbers.Tie as tie
 
 abbrev Inv-loop : tie.InvT-loop
-Inv-loop words i₀ t3 i = i ≤ length words
+Inv-loop numbers i₀ t3 i = i ≤ length numbers
 
 abbrev μ-loop : tie.MeasureT-loop
-μ-loop words i₀ t3 i = length words - i
+μ-loop numbers i₀ t3 i = length numbers - i
 
 loop-holds : tie.Need-loop-holds Inv-loop μ-loop
 loop-holds c = search needs
@@ -41,8 +41,8 @@ loop-again c = search needs
 returns : tie.Need-returns Inv-loop μ-loop
 returns c = search needs
 
-pub say-words-spec : {M : Type 1} → statement M
-say-words-spec =
+pub say-numbers-spec : {M : Type 1} → statement M
+say-numbers-spec =
     tie.close
     (tie.spec
     Inv-loop
