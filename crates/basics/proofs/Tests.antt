@@ -44,6 +44,17 @@ pub and-both : (a b : Bool) → a && b ≡ true → (a ≡ true) × (b ≡ true)
 and-both true b e = (refl, e)
 and-both false b e = absurd (false≢true e)
 
+pub and-left : {a : Bool} (b : Bool) → a ≡ false → a && b ≡ false
+and-left b e = ap (λ c. c && b) e
+
+pub and-right : (a : Bool) {b : Bool} → b ≡ false → a && b ≡ false
+and-right true e = e
+and-right false e = refl
+
+pub and-one : (a : Bool) → a && true ≡ a
+and-one true = refl
+and-one false = refl
+
 pub or-neither : (a b : Bool) → a || b ≡ false → (a ≡ false) × (b ≡ false)
 or-neither true b e = absurd (false≢true (sym e))
 or-neither false b e = (refl, e)

@@ -1,5 +1,5 @@
 -- Demand 1 once more, in the words of docs/SCOPE.md: each call answers exactly if what it is given is valid.
-use Prim.Native.Nat.{ℕ, _+_, _^_, _≤_, _<_}
+use Prim.Native.Nat.{ℕ, _+_, _*_, _^_, _≤_, _<_}
 use mathlib.Core.Path.{_≡_}
 use mathlib.Core.Logic.{_↔_}
 use mathlib.Core.List.{List}
@@ -32,6 +32,13 @@ use Rattle.dropping.proofs.Ported.drop_records.Reads as drop-records
 use Rattle.testsets.specs.Answers.{toldMade}
 use Rattle.testsets.proofs.backward_set.Reads as backward-set
 use Rattle.testsets.proofs.compact_set.Reads as compact-set
+use Rattle.real.specs.Export.{realText}
+use Rattle.real.specs.Reading.{reading}
+use Rattle.real.specs.Reading.Reading.{circuit}
+use Rattle.real_export.specs.Answers.{toldExported}
+use Rattle.real_export.proofs.export.Reads as export
+use Rattle.real_import.specs.Answers.{toldImported}
+use Rattle.real_import.proofs.import.Reads as import
 use Rattle.job.specs.Answers.{toldRead, toldWritten}
 use Rattle.job.proofs.read_job.Reads as read-job
 use Rattle.job.proofs.write_job.Reads as write-job
@@ -46,6 +53,7 @@ use Rattle.demands.proofs.ValidRows.{one-rule}
 use Rattle.demands.proofs.ValidCalls.{run-valid, catch-valid, test-valid, count-valid, judge-valid, vector-alone-valid, backward-valid}
 use Rattle.demands.proofs.ValidCalls.{IsLog, compact-valid}
 use Rattle.demands.proofs.ValidLists.{multiple-valid, drop-valid, drop-records-valid}
+use Rattle.demands.proofs.ValidTexts.{export-valid, import-valid}
 use Rattle.demands.proofs.ValidJobs.{ValidJob, write-valid, IsJob, read-valid}
 use Rattle.demands.proofs.Jobs.{imageOf}
 use Rattle.demands.proofs.Answering.{Ended, Accepts, unrefused, accepts}
@@ -88,6 +96,15 @@ BackwardTaken n words room = (gs : List Gate) × Valid n words gs × (length gs 
 -- a circuit of at most 12 lines, and room for 2 + floor(log2 S) vectors
 abbrev pub CompactTaken : ℕ → List ℕ → ℕ → Type 0
 CompactTaken n words room = (gs : List Gate) × Valid n words gs × ((n ≤ 12) × ((log : ℕ) × IsLog n gs log × (2 + log ≤ room)))
+
+-- a circuit, and room for its text
+abbrev pub ExportTaken : ℕ → List ℕ → ℕ → Type 0
+ExportTaken n words room = (gs : List Gate) × Valid n words gs × (length (realText n words) ≤ room)
+
+-- a text that reads as a circuit, and room for its gates, three words each
+abbrev pub ImportTaken : List ℕ → ℕ → Type 0
+ImportTaken text room =
+    (n : ℕ) × (words : List ℕ) × (reading text ≡ circuit n words) × ((gs : List Gate) × Valid n words gs × (3 * length gs ≤ room))
 
 -- a job, and room for its image
 abbrev pub WriteTaken : ℕ → ℕ → List ℕ → List ℕ → ℕ → Type 0
@@ -146,6 +163,13 @@ backward-set-takes = accepts refusing.backward-set-refuses (λ κs a. backward-v
 pub compact-set-takes : Accepts compact-set.Post (λ κs. toldMade)
     (λ κs (lines, (gates, (room, _))). CompactTaken lines (now gates) (length (now room)))
 compact-set-takes = accepts refusing.compact-set-refuses (λ κs a. compact-valid _ _ _)
+
+pub export-takes : Accepts export.Post (λ κs. toldExported)
+    (λ κs (lines, (gates, (out, _))). ExportTaken lines (now gates) (length (now out)))
+export-takes = accepts refusing.export-refuses (λ κs a. export-valid _ _ _)
+
+pub import-takes : Accepts import.Post (λ κs. toldImported) (λ κs (text, (gates, _)). ImportTaken (now text) (length (now gates)))
+import-takes = accepts refusing.import-refuses (λ κs a. import-valid _ _)
 
 pub write-job-takes : Accepts write-job.Post (λ κs. toldWritten)
     (λ κs (lines, (classes, (gates, (vectors, (out, _))))). WriteTaken lines classes (now gates) (now vectors) (length (now out)))

@@ -23,15 +23,18 @@ use Rattle.nufsadeem.proofs.judging.nuf_cover.Reads as cover
 use Rattle.nufsadeem.proofs.jobs.nuf_read_job.Reads as read-job
 use Rattle.nufsadeem.proofs.jobs.nuf_write_job.Reads as write-job
 use Rattle.nufsadeem.proofs.jobs.nuf_report.Reads as report
+use Rattle.nufsadeem.proofs.texts.nuf_export_real.Reads as export
+use Rattle.nufsadeem.proofs.texts.nuf_import_real.Reads as import
 use Rattle.report_text.specs.Report.{reportText}
 use Rattle.report_text.specs.Rules.{reportRows}
 use Rattle.report_text.proofs.ReportLaws.{report-fits}
 use Rattle.demands.proofs.ValidRows.{one-rule}
 use Rattle.demands.proofs.ValidCalls.{run-valid, catch-valid, test-valid, judge-valid, backward-valid, compact-valid}
 use Rattle.demands.proofs.ValidLists.{multiple-valid, drop-valid, drop-records-valid}
+use Rattle.demands.proofs.ValidTexts.{export-valid, import-valid}
 use Rattle.demands.proofs.ValidJobs.{write-valid, IsJob, read-valid}
 use Rattle.demands.proofs.Accepting.{RunTaken, CatchTaken, MultipleTaken, TestTaken, JudgeTaken, DropTaken, DropRecordsTaken}
-use Rattle.demands.proofs.Accepting.{BackwardTaken, CompactTaken, WriteTaken}
+use Rattle.demands.proofs.Accepting.{BackwardTaken, CompactTaken, ExportTaken, ImportTaken, WriteTaken}
 use Rattle.demands.proofs.Answering.{Ended}
 use Rattle.demands.proofs.InC.{AcceptsInC, unrefused-in-c, accepts-in-c}
 use Rattle.demands.proofs.Demand1OfC as refusing
@@ -75,6 +78,13 @@ backward-set-takes = accepts-in-c refusing.backward-set-refuses (λ κs a. backw
 pub compact-set-takes : AcceptsInC compact-set.Post (λ κs r. r .number)
     (λ κs (lines, (gates, (room, _))). CompactTaken lines (now gates) (length (now room)))
 compact-set-takes = accepts-in-c refusing.compact-set-refuses (λ κs a. compact-valid _ _ _)
+
+pub export-takes : AcceptsInC export.Post (λ κs r. r .number)
+    (λ κs (lines, (gates, (out, _))). ExportTaken lines (now gates) (length (now out)))
+export-takes = accepts-in-c refusing.export-refuses (λ κs a. export-valid _ _ _)
+
+pub import-takes : AcceptsInC import.Post (λ κs r. r .number) (λ κs (text, (gates, _)). ImportTaken (now text) (length (now gates)))
+import-takes = accepts-in-c refusing.import-refuses (λ κs a. import-valid _ _)
 
 pub write-job-takes : AcceptsInC write-job.Post (λ κs r. r .number)
     (λ κs (lines, (classes, (gates, (vectors, (out, _))))). WriteTaken lines classes (now gates) (now vectors) (length (now out)))

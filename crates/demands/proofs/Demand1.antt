@@ -33,6 +33,12 @@ use Rattle.testsets.specs.Rules.{backwardRows, compactRows}
 use Rattle.testsets.specs.Answers.{toldMade}
 use Rattle.testsets.proofs.backward_set.Reads as backward-set
 use Rattle.testsets.proofs.compact_set.Reads as compact-set
+use Rattle.real_export.specs.Rules.{exportRows}
+use Rattle.real_export.specs.Answers.{toldExported}
+use Rattle.real_export.proofs.export.Reads as export
+use Rattle.real_import.specs.Rules.{importRows}
+use Rattle.real_import.specs.Answers.{toldImported}
+use Rattle.real_import.proofs.import.Reads as import
 use Rattle.job.specs.Rules.{readRows, writeRows, headerRows, contentRows}
 use Rattle.job.specs.Answers.{toldRead, toldWritten}
 use Rattle.job.proofs.read_job.Reads as read-job
@@ -150,6 +156,26 @@ compact-set-refuses = record { its-numbers = λ κs a. refl; in-order = in-turn 
 
 pub compact-set-leaves : Leaves compact-set-refuses (λ κs (_, (_, (room, _))). now room) (λ κs r (_, (_, (room-after, _))). now room-after)
 compact-set-leaves = refusal-leaves _ (λ κs a r e p. p .1)
+
+-- real_export
+pub export-refuses : Refuses export.Post (λ κs. toldExported)
+    (λ κs (lines, (gates, (out, _))). exportRows lines (now gates) (length (now out)))
+    (3 ∷ 5 ∷ 7 ∷ 10 ∷ [])
+unfolding exportRows circuitSetRows circuitRows
+export-refuses = record { its-numbers = λ κs a. refl; in-order = in-turn _ _ refl; exact = λ κs a r e p. (_, exactly _ _ _ (p .0)) }
+
+pub export-leaves : Leaves export-refuses (λ κs (_, (_, (out, _))). now out) (λ κs r (_, (_, (out-after, _))). now out-after)
+export-leaves = refusal-leaves _ (λ κs a r e p. p .1)
+
+-- real_import
+pub import-refuses : Refuses import.Post (λ κs. toldImported)
+    (λ κs (text, (gates, _)). importRows (now text) (length (now gates)))
+    (15 ∷ 14 ∷ 3 ∷ 5 ∷ 7 ∷ 10 ∷ [])
+unfolding importRows circuitSetRows circuitRows
+import-refuses = record { its-numbers = λ κs a. refl; in-order = in-turn _ _ refl; exact = λ κs a r e p. (_, exactly _ _ _ (p .0)) }
+
+pub import-leaves : Leaves import-refuses (λ κs (_, (gates, _)). now gates) (λ κs r (_, (gates-after, _)). now gates-after)
+import-leaves = refusal-leaves _ (λ κs a r e p. p .1)
 
 -- job
 pub read-job-refuses : Refuses read-job.Post (λ κs. toldRead)

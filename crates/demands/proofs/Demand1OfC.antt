@@ -13,6 +13,8 @@ use Rattle.judge.specs.Rules.{classRows, judgeRows}
 use Rattle.judge.specs.Judging.{verdict}
 use Rattle.dropping.specs.Rules.{recordRows, dropRows, dropRecordsRows}
 use Rattle.testsets.specs.Rules.{backwardRows, compactRows}
+use Rattle.real_export.specs.Rules.{exportRows}
+use Rattle.real_import.specs.Rules.{importRows}
 use Rattle.job.specs.Rules.{readRows, writeRows, headerRows, contentRows}
 use Rattle.report_text.specs.Rules.{reportRows}
 use Rattle.nufsadeem.proofs.nuf_forward.Reads as forward
@@ -29,6 +31,8 @@ use Rattle.nufsadeem.proofs.judging.nuf_cover.Reads as cover
 use Rattle.nufsadeem.proofs.jobs.nuf_read_job.Reads as read-job
 use Rattle.nufsadeem.proofs.jobs.nuf_write_job.Reads as write-job
 use Rattle.nufsadeem.proofs.jobs.nuf_report.Reads as report
+use Rattle.nufsadeem.proofs.texts.nuf_export_real.Reads as export
+use Rattle.nufsadeem.proofs.texts.nuf_import_real.Reads as import
 use Rattle.demands.proofs.Refusing.{in-turn, Leaves, refusal-leaves}
 use Rattle.demands.proofs.InC.{RefusesInC, in-c}
 
@@ -117,6 +121,24 @@ compact-set-refuses = in-c 1 (λ κs a. refl) (in-turn _ _ refl) refl (λ κs a 
 
 pub compact-set-leaves : Leaves (compact-set-refuses .refuses) (λ κs (_, (_, (room, _))). now room) (λ κs r (_, (_, (room-after, _))). now room-after)
 compact-set-leaves = refusal-leaves _ (λ κs a r e p. p .1)
+
+pub export-refuses : RefusesInC export.Post (λ κs r. r .number) (λ κs r. r .place) (λ κs r. r .count ∷ [])
+    (λ κs (lines, (gates, (out, _))). exportRows lines (now gates) (length (now out)))
+    (3 ∷ 5 ∷ 7 ∷ 10 ∷ [])
+unfolding exportRows circuitSetRows circuitRows
+export-refuses = in-c 1 (λ κs a. refl) (in-turn _ _ refl) refl (λ κs a r e p. (_, p .0))
+
+pub export-leaves : Leaves (export-refuses .refuses) (λ κs (_, (_, (out, _))). now out) (λ κs r (_, (_, (out-after, _))). now out-after)
+export-leaves = refusal-leaves _ (λ κs a r e p. p .1)
+
+pub import-refuses : RefusesInC import.Post (λ κs r. r .number) (λ κs r. r .place) (λ κs r. r .lines ∷ r .gates ∷ [])
+    (λ κs (text, (gates, _)). importRows (now text) (length (now gates)))
+    (15 ∷ 14 ∷ 3 ∷ 5 ∷ 7 ∷ 10 ∷ [])
+unfolding importRows circuitSetRows circuitRows
+import-refuses = in-c 2 (λ κs a. refl) (in-turn _ _ refl) refl (λ κs a r e p. (_, p .0))
+
+pub import-leaves : Leaves (import-refuses .refuses) (λ κs (_, (gates, _)). now gates) (λ κs r (_, (gates-after, _)). now gates-after)
+import-leaves = refusal-leaves _ (λ κs a r e p. p .1)
 
 pub read-job-refuses : RefusesInC read-job.Post (λ κs r. r .number) (λ κs r. r .place)
     (λ κs r. r .lines ∷ r .classes ∷ r .gates ∷ r .vectors ∷ [])

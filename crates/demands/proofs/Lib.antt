@@ -15,6 +15,7 @@ pub mod Valid
 pub mod ValidRows
 pub mod ValidCalls
 pub mod ValidLists
+pub mod ValidTexts
 pub mod Runs
 pub mod Catching
 pub mod Testing
@@ -43,6 +44,7 @@ pub mod WrongProgramsOfC
 pub mod RuleWords
 pub mod RulesInWords
 pub mod RuleOfSites
+pub mod RulesOfTexts
 pub mod RulesTold
 pub mod RuleTables
 pub mod Rules
@@ -55,3 +57,7 @@ pub mod RealFormLaws
 pub mod RealLines
 pub mod RealStages
 pub mod RealReading
+pub mod RealCalls
+pub mod RealTexts
+pub mod RealTextsOfC
+pub mod WrongTexts

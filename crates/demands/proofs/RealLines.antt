@@ -141,7 +141,8 @@ skipped-step s l (comment rest more e) = ap (stepWith s l) e
 
 -- what leads to a circuit leads there from any line on
 onward-circuit : (at : ℕ) (step : Step) (f g : Stage → Reading) (n : ℕ)
-    → ((t : Stage) (words : List ℕ) → f t ≡ circuit n words → g t ≡ circuit n words) → (words : List ℕ) → onward 0 step f ≡ circuit n words → onward at step g ≡ circuit n words
+    → ((t : Stage) (words : List ℕ) → f t ≡ circuit n words → g t ≡ circuit n words) → (words : List ℕ) → onward 0 step f ≡ circuit n words
+    → onward at step g ≡ circuit n words
 onward-circuit at (goes t) f g n h words e = h t words e
 onward-circuit at (adds ws t) f g n h words e =
     let r = gate-circuit ws (f t) n words e in

@@ -13,7 +13,7 @@ use Rattle.demands.proofs.FirstBroken.{Exactly, left}
 
 -- ---- the order in which rules are asked
 
--- the numbers of all rules, in that order; a call has some of them. 14 to 26 are kept for rules to come, and no call has them: without them this is
+-- the numbers of all rules, in that order; a call has some of them. 16 to 26 are kept for rules to come, and no call has them: without them this is
 -- the order of docs/SCOPE.md, section 7.
 abbrev pub order : List ℕ
 order = 16 ∷ 17 ∷ 1 ∷ 2 ∷ 15 ∷ 14 ∷ 3 ∷ 4 ∷ 5 ∷ 6 ∷ 7 ∷ 20 ∷ 21 ∷ 8 ∷ 22 ∷ 18 ∷ 19 ∷ 25 ∷ 26 ∷ 23 ∷ 9 ∷ 11 ∷ 12 ∷ 13 ∷ 24 ∷ 10 ∷ []

@@ -16,6 +16,10 @@ use Rattle.judge.specs.Rules.{classRows, judgeRows, countRows}
 use Rattle.dropping.specs.Rules.{recordRows, dropRows, dropRecordsRows}
 use Rattle.testsets.specs.Sets.{bound}
 use Rattle.testsets.specs.Rules.{backwardRows, compactRows}
+use Rattle.real.specs.Export.{realText}
+use Rattle.real.specs.Reading.{reading}
+use Rattle.real_export.specs.Rules.{exportRows}
+use Rattle.real_import.specs.Rules.{linesRead, wordsRead, importRows}
 use Rattle.job.specs.Image.{gateCount, linesIn, classesIn, gatesIn, vectorsIn, gateWords, vectorWords}
 use Rattle.job.specs.Rules.{headerRows, contentRows, readRows, writeRows}
 use Rattle.job.proofs.ImageLaws.{length-image}
@@ -28,6 +32,7 @@ use Rattle.demands.proofs.RulesInWords.{class-rule, records-rule, plain
 use Rattle.demands.proofs.RulesInWords.{two-rooms-rule, classes-rule, short-rule, form-rule, classes-in-rule, sizes-rule}
 use Rattle.demands.proofs.RulesInWords.{number-two, number-four, words-from}
 use Rattle.demands.proofs.RuleOfSites.{EntryCount, entry-count-rule}
+use Rattle.demands.proofs.RulesOfTexts.{OtherTokens, TextForm, other-tokens-rule, text-form-rule}
 use Rattle.demands.proofs.RulesTold.{Asked, Spelled}
 use Rattle.demands.proofs.RulesTold.Asked.{rule_asks_}
 use Rattle.demands.proofs.RulesTold.Spelled.{_then_, done}
@@ -133,6 +138,32 @@ pub compact-set-spelled : (n : ℕ) (words : List ℕ) (room : ℕ) → Spelled 
 unfolding compactRows circuitRows circuitSetRows
 compact-set-spelled n words room =
     lines-rule n then whole-rule words 0 then gates-rule n words then few-lines-rule n then room-rule (bound n (gatesOf words)) room then done
+
+-- a circuit that is written as a text
+abbrev pub exportAsked : ℕ → List ℕ → ℕ → List Asked
+exportAsked n words room = circuitAsked n words 0 ++ (rule 10 asks Room (length (realText n words)) room ∷ [])
+
+pub export-spelled : (n : ℕ) (words : List ℕ) (room : ℕ) → Spelled (exportRows n words room) (exportAsked n words room)
+unfolding exportRows circuitRows circuitSetRows
+export-spelled n words room =
+    lines-rule n then whole-rule words 0 then gates-rule n words then room-rule (length (realText n words)) room then done
+
+-- a text that is read: where 15 and 14 are kept it reads as a circuit, as `RulesOfTexts.kept-reads` says, and the others ask that one
+abbrev pub importAsked : List ℕ → ℕ → List Asked
+importAsked text room =
+    let n = linesRead (reading text) in
+    let words = wordsRead (reading text) in
+    rule 15 asks OtherTokens text ∷
+    rule 14 asks TextForm text ∷
+    (circuitAsked n words 0 ++ (rule 10 asks Room (length words) room ∷ []))
+
+pub import-spelled : (text : List ℕ) (room : ℕ) → Spelled (importRows text room) (importAsked text room)
+unfolding importRows circuitRows circuitSetRows
+import-spelled text room =
+    let n = linesRead (reading text) in
+    let words = wordsRead (reading text) in
+    other-tokens-rule text then text-form-rule text
+    then lines-rule n then whole-rule words 0 then gates-rule n words then room-rule (length words) room then done
 
 -- the report
 abbrev pub reportAsked : List ℕ → ℕ → List Asked

@@ -4,9 +4,10 @@ use lib.ListN.{length}
 use denote.Ref.{now}
 use Rattle.demands.proofs.RuleTables.{runAsked, catchAsked, multipleAsked, testAsked, judgeAsked, addAsked, countAsked}
 use Rattle.demands.proofs.RuleTables.{dropAsked, dropRecordsAsked, backwardSetAsked, compactSetAsked, readAsked, writeAsked, reportAsked}
+use Rattle.demands.proofs.RuleTables.{exportAsked, importAsked}
 use Rattle.demands.proofs.RuleTables.{run-spelled, catch-spelled, multiple-spelled, test-spelled, judge-spelled, add-spelled, count-spelled}
 use Rattle.demands.proofs.RuleTables.{drop-spelled, drop-records-spelled, backward-set-spelled, compact-set-spelled}
-use Rattle.demands.proofs.RuleTables.{read-spelled, write-spelled, report-spelled}
+use Rattle.demands.proofs.RuleTables.{read-spelled, write-spelled, report-spelled, export-spelled, import-spelled}
 use Rattle.demands.proofs.RulesTold.{Asks, by-words}
 use Rattle.demands.proofs.Demand1 as calls
 
@@ -63,6 +64,16 @@ backward-set-asks = by-words calls.backward-set-refuses (λ κs a. backward-set-
 
 pub compact-set-asks : Asks calls.compact-set-refuses (λ κs (lines, (gates, (room, _))). compactSetAsked lines (now gates) (length (now room)))
 compact-set-asks = by-words calls.compact-set-refuses (λ κs a. compact-set-spelled _ _ _)
+
+-- real_export
+
+pub export-asks : Asks calls.export-refuses (λ κs (lines, (gates, (out, _))). exportAsked lines (now gates) (length (now out)))
+export-asks = by-words calls.export-refuses (λ κs a. export-spelled _ _ _)
+
+-- real_import
+
+pub import-asks : Asks calls.import-refuses (λ κs (text, (gates, _)). importAsked (now text) (length (now gates)))
+import-asks = by-words calls.import-refuses (λ κs a. import-spelled _ _)
 
 -- job
 

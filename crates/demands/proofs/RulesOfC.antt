@@ -8,9 +8,10 @@ use denote.Ref.{now}
 use Rattle.refusals.specs.Tables.{Row}
 use Rattle.demands.proofs.RuleTables.{runAsked, catchAsked, multipleAsked, testAsked, judgeAsked, dropAsked}
 use Rattle.demands.proofs.RuleTables.{dropRecordsAsked, backwardSetAsked, compactSetAsked, readAsked, writeAsked, reportAsked}
+use Rattle.demands.proofs.RuleTables.{exportAsked, importAsked}
 use Rattle.demands.proofs.RuleTables.{run-spelled, catch-spelled, multiple-spelled, test-spelled, judge-spelled, drop-spelled}
 use Rattle.demands.proofs.RuleTables.{drop-records-spelled, backward-set-spelled, compact-set-spelled}
-use Rattle.demands.proofs.RuleTables.{read-spelled, write-spelled, report-spelled}
+use Rattle.demands.proofs.RuleTables.{read-spelled, write-spelled, report-spelled, export-spelled, import-spelled}
 use Rattle.demands.proofs.RulesTold.{Asked, GivenFirst, AllKept, Asks, by-words}
 use Rattle.demands.proofs.Demand1OfC as calls
 use Rattle.demands.proofs.InC.{RefusesInC, tells-refusal, tells-answer}
@@ -84,6 +85,16 @@ backward-set-asks = by-words (calls.backward-set-refuses .refuses) (λ κs a. ba
 pub compact-set-asks : Asks (calls.compact-set-refuses .refuses)
     (λ κs (lines, (gates, (room, _))). compactSetAsked lines (now gates) (length (now room)))
 compact-set-asks = by-words (calls.compact-set-refuses .refuses) (λ κs a. compact-set-spelled _ _ _)
+
+-- real_export
+
+pub export-asks : Asks (calls.export-refuses .refuses) (λ κs (lines, (gates, (out, _))). exportAsked lines (now gates) (length (now out)))
+export-asks = by-words (calls.export-refuses .refuses) (λ κs a. export-spelled _ _ _)
+
+-- real_import
+
+pub import-asks : Asks (calls.import-refuses .refuses) (λ κs (text, (gates, _)). importAsked (now text) (length (now gates)))
+import-asks = by-words (calls.import-refuses .refuses) (λ κs a. import-spelled _ _)
 
 -- job
 

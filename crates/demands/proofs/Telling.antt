@@ -18,6 +18,10 @@ use Rattle.dropping.specs.Answers.{toldDropped}
 use Rattle.dropping.specs.declared.Dropped.the-variants as dropped
 use Rattle.testsets.specs.Answers.{toldMade}
 use Rattle.testsets.specs.declared.Made.the-variants as set
+use Rattle.real_export.specs.Answers.{toldExported}
+use Rattle.real_export.specs.declared.Exported.the-variants as exported
+use Rattle.real_import.specs.Answers.{toldImported}
+use Rattle.real_import.specs.declared.Imported.the-variants as imported
 use Rattle.job.specs.Answers.{toldRead, toldWritten}
 use Rattle.job.specs.declared.Read.the-variants as read
 use Rattle.job.specs.declared.Written.the-variants as written
@@ -54,6 +58,13 @@ drop-tells number = refl
 pub set-tells : (number : ℕ) → toldMade (set.Count number) ≡ answered (number ∷ [])
 set-tells number = refl
 
+pub export-tells : (number : ℕ) → toldExported (exported.Bytes number) ≡ answered (number ∷ [])
+export-tells number = refl
+
+-- lines, gates
+pub import-tells : (lines gates : ℕ) → toldImported (imported.Circuit lines gates) ≡ answered (lines ∷ gates ∷ [])
+import-tells lines gates = refl
+
 -- lines, classes wanted, gates, vectors
 pub read-tells : (lines classes gates vectors : ℕ)
     → toldRead (read.Job lines classes gates vectors) ≡ answered (lines ∷ classes ∷ gates ∷ vectors ∷ [])
@@ -72,5 +83,6 @@ module _ (r : Refusal) where
       × (toldTest (test.Refused r) ≡ refused (r .number) (r .place)) × (toldVerdict (verdict.Refused r) ≡ refused (r .number) (r .place))
       × (toldDropped (dropped.Refused r) ≡ refused (r .number) (r .place)) × (toldMade (set.Refused r) ≡ refused (r .number) (r .place))
       × (toldRead (read.Refused r) ≡ refused (r .number) (r .place)) × (toldWritten (written.Refused r) ≡ refused (r .number) (r .place))
+      × (toldExported (exported.Refused r) ≡ refused (r .number) (r .place)) × (toldImported (imported.Refused r) ≡ refused (r .number) (r .place))
       × (toldReported (reported.Refused r) ≡ refused (r .number) (r .place))
-  refusals-tell = (refl, refl, refl, refl, refl, refl, refl, refl, refl)
+  refusals-tell = (refl, refl, refl, refl, refl, refl, refl, refl, refl, refl, refl)

@@ -39,6 +39,12 @@ use Rattle.testsets.specs.Answers.{toldMade}
 use Rattle.testsets.proofs.AnswerLaws.{told-made-one}
 use Rattle.testsets.proofs.backward_set.Reads as backward-set
 use Rattle.testsets.proofs.compact_set.Reads as compact-set
+use Rattle.real_export.specs.Answers.{toldExported}
+use Rattle.real_export.proofs.AnswerLaws.{told-exported-one}
+use Rattle.real_export.proofs.export.Reads as export
+use Rattle.real_import.specs.Answers.{toldImported}
+use Rattle.real_import.proofs.AnswerLaws.{told-imported-one}
+use Rattle.real_import.proofs.import.Reads as import
 use Rattle.job.specs.Answers.{toldRead, toldWritten}
 use Rattle.job.proofs.AnswerLaws.{told-read-one, told-written-one}
 use Rattle.job.proofs.read_job.Reads as read-job
@@ -182,6 +188,18 @@ pub compact-set-one : OneResultAndMemory compact-set.Post
     (λ κs (lines, (gates, (room, _))) (lines′, (gates′, (room′, _))). (lines ≡ lines′) × (now gates ≡ now gates′) × (now room ≡ now room′))
     (λ κs (_, (_, (room-after, _))) f. now room-after ≡ now (f .1 .1 .0))
 compact-set-one κs a b equal r s e f p q = (one toldMade told-made-one r s (p .0) cc, same (p .1) cc)
+
+-- real_export
+pub export-one : OneResultAndMemory export.Post
+    (λ κs (lines, (gates, (out, _))) (lines′, (gates′, (out′, _))). (lines ≡ lines′) × (now gates ≡ now gates′) × (now out ≡ now out′))
+    (λ κs (_, (_, (out-after, _))) f. now out-after ≡ now (f .1 .1 .0))
+export-one κs a b equal r s e f p q = (one toldExported told-exported-one r s (p .0) cc, same (p .1) cc)
+
+-- real_import
+pub import-one : OneResultAndMemory import.Post
+    (λ κs (text, (gates, _)) (text′, (gates′, _)). (now text ≡ now text′) × (now gates ≡ now gates′))
+    (λ κs (_, (gates-after, _)) f. now gates-after ≡ now (f .1 .0))
+import-one κs a b equal r s e f p q = (one toldImported told-imported-one r s (p .0) cc, same (p .1) cc)
 
 -- job
 pub read-job-one : OneResultAndMemory read-job.Post

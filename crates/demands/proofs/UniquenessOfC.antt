@@ -9,6 +9,7 @@ use Rattle.answers.specs.declared.Vector.{Vector}
 use Rattle.answers.specs.declared.Count.{Count}
 use Rattle.answers.specs.declared.verdicts.Judgement.{Judgement}
 use Rattle.answers.specs.declared.jobs.Job.{Job}
+use Rattle.answers.specs.declared.texts.Circuit.{Circuit}
 use Rattle.nufsadeem.proofs.nuf_forward.Reads as forward
 use Rattle.nufsadeem.proofs.nuf_backward.Reads as backward
 use Rattle.nufsadeem.proofs.nuf_catches.Reads as catches
@@ -23,6 +24,8 @@ use Rattle.nufsadeem.proofs.judging.nuf_cover.Reads as cover
 use Rattle.nufsadeem.proofs.jobs.nuf_read_job.Reads as read-job
 use Rattle.nufsadeem.proofs.jobs.nuf_write_job.Reads as write-job
 use Rattle.nufsadeem.proofs.jobs.nuf_report.Reads as report
+use Rattle.nufsadeem.proofs.texts.nuf_export_real.Reads as export
+use Rattle.nufsadeem.proofs.texts.nuf_import_real.Reads as import
 use Rattle.demands.proofs.Uniqueness.{same, one, OneResult, OneResultAndMemory}
 
 -- ---- structs whose fields are equal are equal
@@ -66,6 +69,17 @@ count-one r s e =
     let place : r .place ≡ s .place = cc in
     let count : r .count ≡ s .count = cc in
     λ i. record { number = number i; place = place i; count = count i }
+
+abbrev circuitFields : Circuit → List ℕ
+circuitFields r = r .number ∷ r .place ∷ r .lines ∷ r .gates ∷ []
+
+circuit-one : (r s : Circuit) → circuitFields r ≡ circuitFields s → r ≡ s
+circuit-one r s e =
+    let number : r .number ≡ s .number = cc in
+    let place : r .place ≡ s .place = cc in
+    let lines : r .lines ≡ s .lines = cc in
+    let gates : r .gates ≡ s .gates = cc in
+    λ i. record { number = number i; place = place i; lines = lines i; gates = gates i }
 
 abbrev jobFields : Job → List ℕ
 jobFields r = r .number ∷ r .place ∷ r .lines ∷ r .classes ∷ r .gates ∷ r .vectors ∷ []
@@ -161,6 +175,16 @@ pub cover-one : OneResult cover.Post
     (λ κs (lines, (gates, (vectors, (class, _)))) (lines′, (gates′, (vectors′, (class′, _)))).
     (lines ≡ lines′) × (now gates ≡ now gates′) × (now vectors ≡ now vectors′) × (class ≡ class′))
 cover-one κs a b equal r s e f p q = one judgementFields judgement-one r s p cc
+
+pub export-one : OneResultAndMemory export.Post
+    (λ κs (lines, (gates, (out, _))) (lines′, (gates′, (out′, _))). (lines ≡ lines′) × (now gates ≡ now gates′) × (now out ≡ now out′))
+    (λ κs (_, (_, (out-after, _))) f. now out-after ≡ now (f .1 .1 .0))
+export-one κs a b equal r s e f p q = (one countFields count-one r s (p .0) cc, same (p .1) cc)
+
+pub import-one : OneResultAndMemory import.Post
+    (λ κs (text, (gates, _)) (text′, (gates′, _)). (now text ≡ now text′) × (now gates ≡ now gates′))
+    (λ κs (_, (gates-after, _)) f. now gates-after ≡ now (f .1 .0))
+import-one κs a b equal r s e f p q = (one circuitFields circuit-one r s (p .0) cc, same (p .1) cc)
 
 pub read-job-one : OneResultAndMemory read-job.Post
     (λ κs (bytes, (gates, (vectors, _))) (bytes′, (gates′, (vectors′, _))).

@@ -70,7 +70,7 @@ unfolding firstBadFrom
 none-first bad place [] w = refl
 none-first bad place (a ∷ rest) w = choice-false (w .0) _ _ ∙ none-first bad (suc place) rest (w .1)
 
-flat-length : (gs : List Gate) → length (flat gs) ≡ 3 * length gs
+pub flat-length : (gs : List Gate) → length (flat gs) ≡ 3 * length gs
 flat-length [] = refl
 flat-length (g ∷ gs) = let r = flat-length gs in omega arith
 

@@ -42,7 +42,7 @@ module _ (n : ℕ) (words : List ℕ) where
   its-gates gs v = ap gatesOf (v .circuit .lent) ∙ gates-flat gs
 
   -- a circuit, and more of its gates
-  with-circuit : (rows : List Row) (P : List Gate → Type 0) → Fine rows ↔ P (gatesOf words)
+  pub with-circuit : (rows : List Row) (P : List Gate → Type 0) → Fine rows ↔ P (gatesOf words)
       → Fine (circuitRows n words ++ rows) ↔ ((gs : List Gate) × Valid n words gs × P gs)
   with-circuit rows P more = (
     λ e.

@@ -1,14 +1,14 @@
 -- Laws of words that are joined by single blanks into lines, and of lines that are ended by LF: both are split again.
 use Prim.Native.Nat.{ℕ, _≤_}
 use mathlib.Core.Path.{_≡_, refl, sym, ap, _∙_}
-use mathlib.Core.Bool.{Bool, true, false, not, _&&_, _||_}
+use mathlib.Core.Bool.{Bool, true, false, not, _&&_}
 use mathlib.Core.List.{List, [], _∷_, _++_, map, append-assoc}
 use native.Mathlib.Omega.{arith}
 use lib.ListN.{length}
 use lib.Dec.{eqb, leb}
 use borrow.Author.Tests.{leb-true, le-leb, ne-eqb}
 use Rattle.basics.specs.Lists.{each, All}
-use Rattle.basics.proofs.Tests.{and-both, and-true, or-false, or-right, or-left, by-equal}
+use Rattle.basics.proofs.Tests.{and-both, and-true, or-false, or-right}
 use Rattle.text.specs.Texts.{ascii, every}
 use Rattle.text_words.specs.Words.{isBlank, wordEnds, wordsOf, linesOf}
 use Rattle.text_words.specs.Runs.{inLine, isInk}
@@ -75,7 +75,8 @@ first-word (b ∷ w) rest v e = word-first b w rest (every-imp visible isInk vis
 words-tail : (ws : List Word) → All Visible ws → wordsOf (tail-of ws) ≡ ws
 unfolding tail-of each ascii wordsOf isBlank every
 words-tail [] h = refl
-words-tail (w ∷ ws) h = blanks-first (32 ∷ []) (w ++ tail-of ws) refl ∙ first-word w (tail-of ws) (h .0) (tail-ends ws) ∙ ap (λ t. w ∷ t) (words-tail ws (h .1))
+words-tail (w ∷ ws) h = blanks-first (32 ∷ []) (w ++ tail-of ws) refl ∙ first-word w (tail-of ws) (h .0) (tail-ends ws) ∙ ap (λ t. w ∷ t)
+    (words-tail ws (h .1))
 
 pub joined-words : (w : Word) (ws : List Word) → All Visible (w ∷ ws) → wordsOf (joined (w ∷ ws)) ≡ w ∷ ws
 unfolding joined tail-of

@@ -1,7 +1,6 @@
 -- Laws of masks: the mask of the names of the lines that are on is the mask.
-use Prim.Native.Nat.{ℕ, zero, suc, _+_, _-_, _*_, _/_, _%_, _^_, _<_, _≤_}
-use mathlib.Core.Path.{_≡_, refl, sym, ap, _∙_}
-use mathlib.Core.Bool.{Bool, true, false}
+use Prim.Native.Nat.{ℕ, zero, suc, _+_, _-_, _*_, _/_, _%_, _^_, _<_}
+use mathlib.Core.Path.{_≡_, refl, ap, _∙_}
 use mathlib.Core.List.{List, [], _∷_, _++_, map}
 use native.Mathlib.Omega.{arith}
 use native.Mathlib.Numerals.{add-one}
@@ -13,8 +12,7 @@ use lib.Dec.{eqb}
 use Rattle.basics.specs.Choice.{choice}
 use Rattle.basics.specs.Lists.{upFrom, keep, All}
 use Rattle.words.specs.Word.{bit, linesOn}
-use Rattle.text.specs.Texts.{place}
-use Rattle.real.specs.Form.{Word, maskOf, controlsOf, targetOf, gateOf}
+use Rattle.real.specs.Form.{maskOf, controlsOf, targetOf}
 use Rattle.real.specs.Export.{nameOf}
 use Rattle.real.proofs.NameLaws.{place-of}
 
@@ -45,7 +43,8 @@ unfolding keep upFrom bit powers
 on-digits w a zero = rw (mod-one (w / 2 ^ a)) (omega arith)
 on-digits w a (suc k) =
     one-more (w / 2 ^ a % 2) a (keep (λ j. eqb (w / 2 ^ j % 2) 1) (upFrom (suc a) k)) (mod-lt (w / 2 ^ a) (omega arith))
-    ∙ rw (on-digits w (suc a) k, low-digit (w / 2 ^ a) k, half-on w a) (spread (2 ^ a) (w / 2 ^ a % 2) (w / 2 ^ suc a % 2 ^ k) (2 ^ suc a) (omega arith))
+    ∙ rw (on-digits w (suc a) k, low-digit (w / 2 ^ a) k, half-on w a)
+    (spread (2 ^ a) (w / 2 ^ a % 2) (w / 2 ^ suc a % 2 ^ k) (2 ^ suc a) (omega arith))
   where
     spread : (p b r q : ℕ) → q ≡ 2 * p → b * p + q * r ≡ p * (b + 2 * r)
     spread p b r q e = rw e (omega arith)

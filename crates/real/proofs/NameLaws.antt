@@ -1,22 +1,21 @@
 -- Laws of the names x0, x1 and on: they are names, all different, and xj is found at place j.
-use Prim.Native.Nat.{ℕ, zero, suc, _+_, _-_, _<_, _≤_}
+use Prim.Native.Nat.{ℕ, zero, suc, _+_, _<_}
 use mathlib.Core.Path.{_≡_, refl, sym, ap, _∙_}
-use mathlib.Core.Bool.{Bool, true, false, not, _&&_, _||_}
-use mathlib.Core.List.{List, [], _∷_, _++_, map}
+use mathlib.Core.Bool.{Bool, true, false, not}
+use mathlib.Core.List.{List, [], _∷_, map}
 use native.Mathlib.Omega.{arith}
-use lib.ListN.{length, getD, length-map}
+use lib.ListN.{length}
 use lib.Dec.{eqb, leb}
-use borrow.Author.Tests.{leb-true, le-leb, ne-eqb, eq-eqb}
-use Rattle.basics.specs.Lists.{upFrom, keep, each, some, All}
-use Rattle.basics.proofs.Tests.{by-test, by-equal, and-both, and-true, or-false, or-right, or-left}
+use borrow.Author.Tests.{leb-true, le-leb}
+use Rattle.basics.specs.Lists.{upFrom, keep, some, All}
+use Rattle.basics.proofs.Tests.{by-test, and-both, and-true, or-false, or-right, or-left}
 use Rattle.basics.proofs.Lists.{all-upFrom, all-keep}
 use Rattle.text.specs.Texts.{ascii, every, same, among, distinct, place}
 use Rattle.text.specs.Decimal.{decimal, isDigit}
 use Rattle.text.proofs.SameLaws.{same-refl, same-true, place-found, place-passed}
-use Rattle.text_words.proofs.PlaceLaws.{distinct-true}
 use Rattle.text.proofs.TextLaws.{digits-most}
 use Rattle.text.proofs.DecimalLaws.{all-digits, decimal-one}
-use Rattle.real.specs.Form.{Word, isLetter, isNameByte, isName}
+use Rattle.real.specs.Form.{isLetter, isNameByte, isName}
 use Rattle.real.specs.Export.{nameOf}
 use Rattle.real.proofs.JoinLaws.{visible, Visible, every-imp}
 

@@ -1,4 +1,4 @@
--- Laws of what a text is refused by: 15 or 14, and nothing else.
+-- Laws of what becomes of a line, and of what a text is refused by: 15 or 14, and nothing else.
 use Prim.Native.Nat.{ℕ, suc}
 use mathlib.Core.Path.{_≡_, refl, sym, ap, _∙_}
 use mathlib.Core.Bool.{Bool, true, false, not, _&&_, _||_}
@@ -10,11 +10,50 @@ use Rattle.basics.specs.Lists.{keep}
 use Rattle.text.specs.Texts.{ascii, every, begins, same, among, distinct}
 use Rattle.text.specs.Decimal.{decimal, isNumber}
 use Rattle.text_words.specs.Words.{wordsOf, linesOf}
-use Rattle.real.specs.Form.{Word, Stage, Step, when, isName, isPlain, isConstants, isGate, isOther, gateDue, gateOf, optionalParts, next, stepWith, stepOf}
+use Rattle.real.specs.Form.{Word, Stage, Step, isName, isPlain, isConstants, isGate, isOther, gateDue, gateOf, optionalParts, next, stepWith, stepOf}
 use Rattle.real.specs.Form.Stage.{start, versioned, counted, named, begun, done}
 use Rattle.real.specs.Form.Step.{goes, adds, stops}
 use Rattle.real.specs.Reading.{Reading, withGate, atEnd, onward, readFrom, reading}
 use Rattle.real.specs.Reading.Reading.{circuit, faulty}
+
+by-choice {ℓ κ} : {A : Type ℓ} (P : A → Type κ) (b : Bool) {x y : A} → P x → P y → P (choice b x y)
+by-choice P true p q = p
+by-choice P false p q = q
+
+module _ {κ} (P : Step → Type κ) (lead : (stage : Stage) → P (goes stage)) (add : (words : List ℕ) (stage : Stage) → P (adds words stage))
+    (stop : P (stops 14)) where
+  -- what holds where a line leads on, adds a gate and stops by 14 holds of every line that is not skipped and has no other gate token
+  pub by-next : (stage : Stage) (word : Word) (more : List Word) → P (next stage word more)
+  unfolding next
+  by-next start word more = by-choice P (same word (ascii ".version")) (lead versioned) stop
+  by-next versioned word more =
+      by-choice P (same word (ascii ".numvars") && (eqb (length more) 1 && isNumber (getD more 0 []))) (lead (counted (getD more 0 []))) stop
+  by-next (counted number) word more =
+      by-choice P
+      (same word (ascii ".variables") && (every isName more && (distinct more && same number (decimal (length more)))))
+      (lead (named more optionalParts)) stop
+  by-next (named names parts) word more =
+      by-choice P (same word (ascii ".begin") && eqb (length more) 0) (lead (begun names))
+      (by-choice P (among word parts && (not (same word (ascii ".constants")) || isConstants (length names) more))
+      (lead (named names (keep (λ p. not (same p word)) parts))) stop)
+  by-next (begun names) word more =
+      by-choice P (same word (ascii ".end") && eqb (length more) 0) (lead (done names))
+      (by-choice P (isGate names word more) (add (gateOf names more) (begun names)) stop)
+  by-next (done names) word more = stop
+
+  -- and where it stops by 15 too, of every line
+  module _ (other : P (stops 15)) where
+    by-with : (stage : Stage) (line : List ℕ) (words : List Word) → P (stepWith stage line words)
+    unfolding stepWith
+    by-with stage line [] = lead stage
+    by-with stage line (word ∷ more) =
+        by-choice P (begins (eqb 35) word) (lead stage)
+        (by-choice P (gateDue stage && isOther word) other
+        (by-choice P (every isPlain line) (by-next stage word more) stop))
+
+    pub by-step : (stage : Stage) (line : List ℕ) → P (stepOf stage line)
+    unfolding stepOf
+    by-step stage line = by-with stage line (wordsOf line)
 
 abbrev pub fifteenOrFourteen : ℕ → Bool
 fifteenOrFourteen k = eqb k 15 || eqb k 14
@@ -25,44 +64,8 @@ right (goes stage) = true
 right (adds words stage) = true
 right (stops k) = fifteenOrFourteen k
 
-right-choice : (b : Bool) (x y : Step) → right x ≡ true → right y ≡ true → right (choice b x y) ≡ true
-right-choice true x y e f = e
-right-choice false x y e f = f
-
-right-when : (b : Bool) (stage : Stage) → right (when b stage) ≡ true
-right-when b stage = right-choice b (goes stage) (stops 14) refl refl
-
-right-next : (stage : Stage) (word : Word) (more : List Word) → right (next stage word more) ≡ true
-unfolding next
-right-next start word more = right-when (same word (ascii ".version")) versioned
-right-next versioned word more =
-    right-when (same word (ascii ".numvars") && (eqb (length more) 1 && isNumber (getD more 0 []))) (counted (getD more 0 []))
-right-next (counted number) word more =
-    right-when
-    (same word (ascii ".variables") && (every isName more && (distinct more && same number (decimal (length more)))))
-    (named more optionalParts)
-right-next (named names parts) word more =
-    let test : Bool = among word parts && (not (same word (ascii ".constants")) || isConstants (length names) more) in
-    let then : Stage = named names (keep (λ p. not (same p word)) parts) in
-    right-choice (same word (ascii ".begin") && eqb (length more) 0) (goes (begun names)) (when test then) refl (right-when test then)
-right-next (begun names) word more =
-    let gate : Step = adds (gateOf names more) (begun names) in
-    right-choice (same word (ascii ".end") && eqb (length more) 0) (goes (done names)) (choice (isGate names word more) gate (stops 14)) refl
-    (right-choice (isGate names word more) gate (stops 14) refl refl)
-right-next (done names) word more = refl
-
-right-with : (stage : Stage) (line : List ℕ) (words : List Word) → right (stepWith stage line words) ≡ true
-unfolding stepWith
-right-with stage line [] = refl
-right-with stage line (word ∷ more) =
-    let plain : Step = choice (every isPlain line) (next stage word more) (stops 14) in
-    right-choice (begins (eqb 35) word) (goes stage) (choice (gateDue stage && isOther word) (stops 15) plain) refl
-    (right-choice (gateDue stage && isOther word) (stops 15) plain refl
-    (right-choice (every isPlain line) (next stage word more) (stops 14) (right-next stage word more) refl))
-
 right-step : (stage : Stage) (line : List ℕ) → right (stepOf stage line) ≡ true
-unfolding stepOf
-right-step stage line = right-with stage line (wordsOf line)
+right-step = by-step (λ step. right step ≡ true) (λ stage. refl) (λ words stage. refl) refl refl
 
 -- the same of a reading
 abbrev rightly : Reading → Bool

@@ -1,17 +1,16 @@
 -- A circuit that is written is read again as it was: the reading of an export is the circuit.
-use Prim.Native.Nat.{ℕ, zero, suc, _+_, _-_, _*_, _^_, _<_, _≤_}
+use Prim.Native.Nat.{ℕ, suc, _*_, _^_, _<_, _≤_}
 use mathlib.Core.Path.{_≡_, refl, sym, ap, ap₂, _∙_}
-use mathlib.Core.Bool.{Bool, true, false, not, _&&_, _||_}
+use mathlib.Core.Bool.{true, false, not, _&&_}
 use mathlib.Core.List.{List, [], _∷_, _++_, map}
 use native.Mathlib.Omega.{arith}
 use lib.ListN.{length, length-map}
-use lib.Dec.{eqb, leb, ltb}
+use lib.Dec.{eqb}
 use borrow.Author.Tests.{le-leb, eqb-true, not-false}
-use Rattle.basics.specs.Choice.{choice}
 use Rattle.basics.specs.Lists.{upFrom, keep, each, some, All}
-use Rattle.basics.proofs.Tests.{and-true, choice-true, choice-false, or-neither}
+use Rattle.basics.proofs.Tests.{and-true, choice-true, choice-false}
 use Rattle.basics.proofs.Lists.{all-upFrom, length-upFrom}
-use Rattle.basics.proofs.All.{all-map, all-append, all-over}
+use Rattle.basics.proofs.All.{all-map, all-append}
 use Rattle.refusals.specs.Tables.{firstOf}
 use Rattle.refusals.specs.Checks.{fine}
 use Rattle.refusals.proofs.Tables.{fine-row}
@@ -19,23 +18,22 @@ use Rattle.refusals.proofs.Places.{none-bad}
 use Rattle.words.specs.Word.{bit, linesOn}
 use Rattle.words.proofs.LineLists.{all-lines}
 use Rattle.circuit.specs.Gates.{gatesOf}
-use Rattle.circuit.specs.Controls.{isControl}
 use Rattle.circuit.specs.Rules.{badLines, badCounts, badGate, firstBadGate, circuitSetRows, circuitRows}
-use Rattle.circuit.specs.Sound.{GateOk, Sound}
+use Rattle.circuit.specs.Sound.{GateOk}
 use Rattle.circuit.specs.declared.Gate.{Gate}
 use Rattle.circuit.proofs.RuleLaws.{sound}
 use Rattle.circuit.proofs.WordLaws.{good-spare}
-use Rattle.text.specs.Texts.{ascii, every, begins, same, among, distinct, place}
-use Rattle.text_words.specs.Words.{wordsOf, linesOf}
-use Rattle.text.specs.Decimal.{decimal, isNumber}
+use Rattle.text.specs.Texts.{ascii, every, begins, same, distinct, place}
+use Rattle.text_words.specs.Words.{linesOf}
+use Rattle.text.specs.Decimal.{decimal}
 use Rattle.text.proofs.SameLaws.{same-refl}
 use Rattle.text.proofs.DecimalLaws.{number-of, decimal-some}
-use Rattle.real.specs.Form.{Word, Stage, Step, isName, isGate, isOther, isPlain, isLetter, gateDue, optionalParts, controlsOf, targetOf, maskOf, gateOf, next, stepWith, stepOf}
+use Rattle.real.specs.Form.{Word, Stage, Step, isGate, isOther, isLetter, gateDue, optionalParts, maskOf, gateOf, next, stepWith, stepOf}
 use Rattle.real.specs.Form.Stage.{start, versioned, counted, named, begun, done}
-use Rattle.real.specs.Form.Step.{goes, adds, stops}
-use Rattle.real.specs.Reading.{Reading, withGate, onward, atEnd, readFrom, reading}
-use Rattle.real.specs.Reading.Reading.{circuit, faulty}
-use Rattle.real.specs.Export.{nameOf, gateLine, headLines, joined, lineText, realText}
+use Rattle.real.specs.Form.Step.{goes, adds}
+use Rattle.real.specs.Reading.{withGate, onward, readFrom, reading}
+use Rattle.real.specs.Reading.Reading.{circuit}
+use Rattle.real.specs.Export.{nameOf, gateLine, headLines, joined, realText}
 use Rattle.real.proofs.JoinLaws.{visible, Visible, joined-words, joined-plain, joined-lines}
 use Rattle.real.proofs.NameLaws.{visible-decimal, all-visible, all-names, all-declared, distinct-rising, rising-up, rising-keep, place-of}
 use Rattle.real.proofs.MaskLaws.{mask-of, length-snoc, controls-of, target-of}
@@ -112,7 +110,8 @@ head-read : (n : ℕ) (rest : List (List ℕ)) → n ≤ 32 → readFrom 1 start
 unfolding headLines begins ascii
 head-read n rest h =
     read-line 1 start (ascii ".version") (ascii "1.0" ∷ []) (v-version, (v-one, tt)) refl refl (goes versioned) next-version _
-    ∙ read-line 2 versioned (ascii ".numvars") (decimal n ∷ []) (v-numvars, (v-decimal n, tt)) refl refl (goes (counted (decimal n))) (next-numvars n) _
+    ∙ read-line 2 versioned (ascii ".numvars") (decimal n ∷ []) (v-numvars, (v-decimal n, tt)) refl refl (goes (counted (decimal n)))
+    (next-numvars n) _
     ∙ read-line 3 (counted (decimal n)) (ascii ".variables") (names n) (v-variables, all-visible (upFrom 0 n)) refl refl
     (goes (named (names n) optionalParts)) (next-variables n h) _
     ∙ read-line 4 (named (names n) optionalParts) (ascii ".begin") [] (v-begin, tt) refl refl (goes (begun (names n))) (next-begin n) rest
@@ -132,16 +131,19 @@ module _ (n : ℕ) (g : Gate) (in-lines : g .controls < 2 ^ n) (on-line : g .tar
 
   rising : distinct (map nameOf (linesOn n (g .controls))) ≡ true
   unfolding linesOn
-  rising = distinct-rising (keep (λ j. eqb (bit (g .controls) j) 1) (upFrom 0 n)) (rising-keep (λ j. eqb (bit (g .controls) j) 1) (upFrom 0 n) (rising-up 0 n))
+  rising = distinct-rising (keep (λ j. eqb (bit (g .controls) j) 1) (upFrom 0 n))
+      (rising-keep (λ j. eqb (bit (g .controls) j) 1) (upFrom 0 n) (rising-up 0 n))
 
   is-gate : isGate (names n) (token n g) (map nameOf (linesOn n (g .controls) ++ (g .target ∷ []))) ≡ true
   unfolding isGate
   is-gate =
       let l = length-snoc (linesOn n (g .controls)) (g .target) in
       and-true
-      (and-true (le-leb 1 (length (map nameOf (linesOn n (g .controls) ++ (g .target ∷ [])))) (omega arith)) (ap (λ k. same (token n g) (ascii "t" ++ decimal k)) l ∙ same-refl (token n g)))
+      (and-true (le-leb 1 (length (map nameOf (linesOn n (g .controls) ++ (g .target ∷ [])))) (omega arith))
+      (ap (λ k. same (token n g) (ascii "t" ++ decimal k)) l ∙ same-refl (token n g)))
       (and-true
-      (all-declared n (linesOn n (g .controls) ++ (g .target ∷ [])) (all-append (λ j. j < n) (linesOn n (g .controls)) (g .target ∷ []) lines-in (on-line, tt)))
+      (all-declared n (linesOn n (g .controls) ++ (g .target ∷ []))
+      (all-append (λ j. j < n) (linesOn n (g .controls)) (g .target ∷ []) lines-in (on-line, tt)))
       (ap distinct (controls-of (linesOn n (g .controls)) (g .target)) ∙ rising))
 
   gate-of : gateOf (names n) (map nameOf (linesOn n (g .controls) ++ (g .target ∷ []))) ≡ flat g
@@ -187,15 +189,24 @@ visible-gates n (g ∷ gs) = (visible-gate n g, visible-gates n gs)
 
 visible-lines : (n : ℕ) (words : List ℕ) → All (All Visible) (allLines n words)
 unfolding headLines
-visible-lines n words =
-    ((v-version, (v-one, tt)), ((v-numvars, (v-decimal n, tt)), ((v-variables, all-visible (upFrom 0 n)), ((v-begin, tt), visible-gates n (gatesOf words)))))
+visible-lines n words = (
+  (v-version, (v-one, tt)),
+  (
+    (v-numvars, (v-decimal n, tt)),
+    (
+      (v-variables, all-visible (upFrom 0 n)),
+      ((v-begin, tt), visible-gates n (gatesOf words)),
+    ),
+  ),
+)
 
 -- the text's lines are the lines of its words
 pub text-lines : (n : ℕ) (words : List ℕ) → linesOf (realText n words) ≡ map joined (allLines n words)
 unfolding realText
 text-lines n words = joined-lines (allLines n words) (visible-lines n words)
 
-pub text-read : (n : ℕ) (words : List ℕ) → n ≤ 32 → All (OnLines n) (gatesOf words) → reading (realText n words) ≡ circuit n (each flat (gatesOf words))
+pub text-read : (n : ℕ) (words : List ℕ) → n ≤ 32 → All (OnLines n) (gatesOf words)
+    → reading (realText n words) ≡ circuit n (each flat (gatesOf words))
 unfolding reading headLines
 text-read n words h ok =
     ap (readFrom 1 start) (text-lines n words)
@@ -203,7 +214,8 @@ text-read n words h ok =
     ∙ gates-read n 5 (gatesOf words) ok
 
 -- words of whole gates with nothing in their spare words
-flat-words : (words : List ℕ) → length words ≡ 3 * length (gatesOf words) → All (λ g. g .spare ≡ 0) (gatesOf words) → each flat (gatesOf words) ≡ words
+flat-words : (words : List ℕ) → length words ≡ 3 * length (gatesOf words) → All (λ g. g .spare ≡ 0) (gatesOf words)
+    → each flat (gatesOf words) ≡ words
 unfolding each gatesOf
 flat-words [] w h = refl
 flat-words (c ∷ []) w h = absurd (omega arith)

@@ -1,5 +1,5 @@
 -- The .real form, line by line: what may stand in each stage of a text.
-use Prim.Native.Nat.{ℕ, zero, suc, _+_, _-_, _^_}
+use Prim.Native.Nat.{ℕ, _+_, _-_, _^_}
 use mathlib.Core.Bool.{Bool, true, false, not, _&&_, _||_}
 use mathlib.Core.List.{List, [], _∷_, _++_}
 use lib.ListN.{length, take, getD}

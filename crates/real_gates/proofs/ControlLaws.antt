@@ -10,7 +10,7 @@ use lib.Seq.{take-suc, take-take, getD-take, length-take-le}
 use lib.Dec.{eqb}
 use borrow.Author.Tests.{eq-eqb, ne-eqb, not-true}
 use Rattle.basics.specs.Lists.{some}
-use Rattle.basics.proofs.Tests.{by-test, by-equal, and-both, and-true, or-false, or-right, or-neither}
+use Rattle.basics.proofs.Tests.{by-test, by-equal, and-both, and-true, and-left, and-right, or-false, or-right, or-neither}
 use Rattle.words.specs.Word.{bit, flip}
 use Rattle.words.proofs.Bits.{bit-le, bit-of-zero}
 use Rattle.words.proofs.Lines.{bit-flip-same, bit-flip-other}
@@ -53,13 +53,6 @@ every-last p [] x = and-all (p x)
 every-last p (y ∷ xs) x = ap (λ b. p y && b) (every-last p xs x) ∙ sym (and-assoc (p y) (every p xs) (p x))
 
 -- ---- one entry that fails, one that stood before
-
-pub and-left : {a : Bool} (b : Bool) → a ≡ false → a && b ≡ false
-and-left b e = ap (λ a. a && b) e
-
-pub and-right : (a : Bool) {b : Bool} → b ≡ false → a && b ≡ false
-and-right true e = e
-and-right false e = refl
 
 every-fails : {A : Type 0} (p : A → Bool) (xs : List A) (i : ℕ) (z : A) → i < length xs → p (getD xs i z) ≡ false → every p xs ≡ false
 unfolding every

@@ -7,7 +7,7 @@ use native.Mathlib.Omega.{arith}
 use native.Mathlib.Numerals.{add-one}
 use lib.ListN.{length, take, getD}
 use lib.Seq.{take-suc, take-length}
-use Rattle.basics.proofs.Tests.{and-true}
+use Rattle.basics.proofs.Tests.{and-true, and-left, and-right}
 use Rattle.text.specs.Texts.{every, among, distinct, place}
 use Rattle.text_words.specs.Words.{wordsOf}
 use Rattle.text_words.specs.Runs.{part, WordAt}
@@ -18,7 +18,7 @@ use Rattle.real_gates.specs.declared.Controls.the-variants as controls
 use Rattle.real_gates.specs.Keys.{Known}
 use Rattle.real_gates.specs.Gates.{areControls, Masked, ControlsRead, areGate}
 use Rattle.real_gates.proofs.KeyLaws.{among-known, among-unknown}
-use Rattle.real_gates.proofs.ControlLaws.{declared, every-last, and-left, and-right}
+use Rattle.real_gates.proofs.ControlLaws.{declared, every-last}
 
 and-swapped : (a b c : Bool) → (a && b) && c ≡ (a && c) && b
 and-swapped a b c = and-assoc a b c ∙ ap (λ d. a && d) (and-comm b c) ∙ sym (and-assoc a c b)

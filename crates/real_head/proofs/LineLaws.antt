@@ -1,19 +1,13 @@
--- Laws of a line by its words, and of the lines up to .begin.
-use Prim.Native.Nat.{ℕ, _+_, _-_, _<_, _≤_}
+-- Laws of the lines up to .begin.
+use Prim.Native.Nat.{ℕ, _+_, _≤_}
 use mathlib.Core.Path.{_≡_, refl, sym, ap, _∙_}
-use mathlib.Core.Bool.{Bool, false}
+use mathlib.Core.Bool.{false}
 use mathlib.Core.List.{List, [], _∷_}
-use native.Mathlib.Omega.{arith}
 use native.Mathlib.Numerals.{add-one}
-use lib.ListN.{length, drop, getD, drop-of-length-le}
-use lib.Seq.{getD-take, getD-drop}
-use lib.Dec.{eqb}
-use Rattle.basics.specs.Choice.{choice}
-use Rattle.text.specs.Texts.{every, begins}
-use Rattle.text.proofs.EveryLaws.{begins-first}
-use Rattle.text_words.specs.Words.{linesOf, wordsOf}
+use lib.ListN.{length, drop, drop-of-length-le}
+use Rattle.text_words.specs.Words.{linesOf}
 use Rattle.text_words.specs.Runs.{part, LineAt}
-use Rattle.real.specs.Form.{Word, Stage, next, gateDue, isPlain, stepWith, stepOf}
+use Rattle.real.specs.Form.{Stage, gateDue, stepOf}
 use Rattle.real.specs.Form.Step.{goes, stops}
 use Rattle.real.specs.Reading.{reading, readFrom}
 use Rattle.real.specs.Reading.Reading.{faulty}
@@ -21,19 +15,6 @@ use Rattle.real.proofs.ReadLaws.{read-goes, read-stops}
 use Rattle.real_head.specs.declared.Due.{Due}
 use Rattle.real_head.specs.declared.Due.the-variants as due
 use Rattle.real_head.specs.Stages.{stageOf}
-use Rattle.real_head.proofs.TurnLaws.{part-length}
-
--- ---- one line
-
-module _ (s : Stage) (line : List ℕ) where
-  pub blank-step : wordsOf line ≡ [] → stepOf s line ≡ goes s
-  unfolding stepOf stepWith
-  blank-step e = ap (stepWith s line) e
-
-  pub word-step : (word : Word) (more : List Word) (a b : Bool) → wordsOf line ≡ word ∷ more → gateDue s ≡ false → begins (eqb 35) word ≡ a
-      → every isPlain line ≡ b → stepOf s line ≡ choice a (goes s) (choice b (next s word more) (stops 14))
-  unfolding stepOf stepWith
-  word-step word more a b e d f g = ap (stepWith s line) e ∙ rw (f, d, g)
 
 -- no gate is due before .begin
 pub head-due : (text : List ℕ) (d : Due) → gateDue (stageOf text d) ≡ false
@@ -41,14 +22,6 @@ head-due text due.Version = refl
 head-due text due.Numvars = refl
 head-due text (due.Variables from to) = refl
 head-due text (due.Part from to i o g k) = refl
-
--- the first byte of a word in its line
-pub begins-part : (p : ℕ → Bool) (line : List ℕ) (from to : ℕ) → from < to → to ≤ length line → begins p (part line from to) ≡ p (getD line from 0)
-begins-part p line from to h k =
-    let l = part-length line from to (omega arith) k in
-    let e : from + 0 ≡ from = omega arith in
-    begins-first p (part line from to) (omega arith)
-    ∙ ap p (getD-take (to - from) (drop from line) 0 0 (omega arith) ∙ getD-drop from line 0 0 ∙ rw e)
 
 -- ---- line by line
 

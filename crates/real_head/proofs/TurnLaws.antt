@@ -1,16 +1,17 @@
 -- Laws of one line: what the code's turn means, by each outcome, and the lines of .numvars and .variables.
-use Prim.Native.Nat.{ℕ, zero, suc, _+_, _-_, _≤_}
+use Prim.Native.Nat.{ℕ, _+_, _-_, _≤_}
 use mathlib.Core.Path.{_≡_, refl, sym, ap, _∙_, subst}
 use mathlib.Core.Bool.{Bool, true, false, _&&_}
-use mathlib.Core.List.{List, [], _∷_}
+use mathlib.Core.List.{List, []}
 use native.Mathlib.Omega.{arith}
-use lib.ListN.{length, take, drop, getD, length-drop}
-use lib.Seq.{drop-drop, take-take, take-nil, take-length, length-take-le}
+use lib.ListN.{length, take, drop, getD}
+use lib.Seq.{drop-drop, take-take}
 use lib.Dec.{eqb}
 use Rattle.basics.specs.Choice.{choice}
 use Rattle.text.specs.Texts.{ascii, same, every, distinct}
 use Rattle.text.specs.Decimal.{decimal, isNumber}
 use Rattle.text_words.specs.Runs.{part}
+use Rattle.text_words.proofs.PartLaws.{part-length, drop-of-take}
 use Rattle.real.specs.Form.{Word, Step, when, next, isName, optionalParts}
 use Rattle.real.specs.Form.Stage.{start, versioned, counted, named, begun}
 use Rattle.real.specs.Form.Step.{goes, stops}
@@ -51,16 +52,7 @@ due-as text word more d e t same-due w = step-as text _ _ t (ap (λ x. next (sta
 
 -- ---- parts
 
-pub part-length : (t : List ℕ) (from to : ℕ) → from ≤ to → to ≤ length t → length (part t from to) ≡ to - from
-part-length t from to h k = length-take-le (to - from) (drop from t) (rw (length-drop from t) (omega arith))
-
 -- a part of a part is a part of the text
-drop-of-take : (n i : ℕ) (l : List ℕ) → drop i (take n l) ≡ take (n - i) (drop i l)
-drop-of-take n zero l = let e : n - 0 ≡ n = omega arith in rw e
-drop-of-take zero (suc i) l = let e : 0 - suc i ≡ 0 = omega arith in rw e
-drop-of-take (suc n) (suc i) [] = sym (take-nil (suc n - suc i))
-drop-of-take (suc n) (suc i) (x ∷ l) = let e : suc n - suc i ≡ n - i = omega arith in rw e (drop-of-take n i l)
-
 pub part-part : (text rest : List ℕ) (at from to : ℕ) → StandsAt text rest at → from ≤ to → to ≤ length rest
     → part rest from to ≡ part text (at + from) (at + to)
 part-part text rest at from to s h k =
@@ -77,16 +69,13 @@ part-stands text at to h k =
     let e : at + length (part text at to) ≡ to = omega arith in
     record { fits = omega arith; same = ap (part text at) (sym e) }
 
-pub rest-stands : (text line : List ℕ) (at end : ℕ) → StandsAt text line at → end ≤ length line → StandsAt text (part line end (length line)) (at + end)
+pub rest-stands : (text line : List ℕ) (at end : ℕ) → StandsAt text line at → end ≤ length line
+    → StandsAt text (part line end (length line)) (at + end)
 rest-stands text line at end s h =
     let l = part-length line end (length line) h (omega arith) in
     let f = s .fits in
     let e : at + end + length (part line end (length line)) ≡ at + length line = omega arith in
     record { fits = omega arith; same = part-part text line at end (length line) s h (omega arith) ∙ ap (part text (at + end)) (sym e) }
-
--- the part up to the end is all that follows a place
-pub part-rest : (line : List ℕ) (end : ℕ) → part line end (length line) ≡ drop end line
-part-rest line end = ap (λ n. take n (drop end line)) (sym (length-drop end line)) ∙ take-length (drop end line)
 
 -- ---- the tests of a line, in turn
 

@@ -10,6 +10,7 @@ ghost use Rattle.text_words.specs.Words.{wordsOf};
 ghost use Rattle.text_words.specs.Runs.{part};
 ghost use Rattle.real.specs.Form.{isConstants, next, stepOf};
 ghost use Rattle.real.specs.Form.Stage.{versioned, counted, named};
+ghost use Rattle.real_head.specs.declared.Due.the-variants.{Part};
 ghost use Rattle.real_head.specs.declared.Turn.the-variants.{Goes, Stops};
 ghost use Rattle.real_head.specs.Stages.{Names, stageOf, partsIn, namesIn, InText, Turned, StandsAt, HeadRead};
 use real::spelling;
@@ -64,6 +65,31 @@ fn when(test: bool, due: Due) -> Turn
     } else {
         Turn::Stops(14)
     }
+}
+
+// The same where an optional part is read: the names from one place to the other, and the parts that may still come.
+fn part_when(
+    test: bool,
+    from: usize,
+    to: usize,
+    inputs: bool,
+    outputs: bool,
+    garbage: bool,
+    constants: bool,
+) -> Turn
+    ensures { λ r. ⌜ r ≡ choice test (Goes (Part from to inputs outputs garbage constants)) (Stops 14) ⌝ }
+{
+    when(
+        test,
+        Due::Part {
+            from,
+            to,
+            inputs,
+            outputs,
+            garbage,
+            constants,
+        },
+    )
 }
 
 // .numvars and one number; `at` is the place of what follows the word.
@@ -149,43 +175,13 @@ fn optional(
         r ⌝ }
 {
     if same::same(word, b".inputs") {
-        return when(
-            inputs,
-            Due::Part {
-                from,
-                to,
-                inputs: false,
-                outputs,
-                garbage,
-                constants,
-            },
-        );
+        return part_when(inputs, from, to, false, outputs, garbage, constants);
     }
     if same::same(word, b".outputs") {
-        return when(
-            outputs,
-            Due::Part {
-                from,
-                to,
-                inputs,
-                outputs: false,
-                garbage,
-                constants,
-            },
-        );
+        return part_when(outputs, from, to, inputs, false, garbage, constants);
     }
     if same::same(word, b".garbage") {
-        return when(
-            garbage,
-            Due::Part {
-                from,
-                to,
-                inputs,
-                outputs,
-                garbage: false,
-                constants,
-            },
-        );
+        return part_when(garbage, from, to, inputs, outputs, false, constants);
     }
     if !same::same(word, b".constants") {
         return Turn::Stops(14);
@@ -193,17 +189,7 @@ fn optional(
     if !is_constants(&text[from..to], rest) {
         return Turn::Stops(14);
     }
-    when(
-        constants,
-        Due::Part {
-            from,
-            to,
-            inputs,
-            outputs,
-            garbage,
-            constants: false,
-        },
-    )
+    part_when(constants, from, to, inputs, outputs, garbage, false)
 }
 
 // A line of a first word and more; `at` is the place after the word.

@@ -2,23 +2,22 @@
 use Prim.Native.Nat.{ℕ, _≤_}
 use mathlib.Core.Path.{_≡_, refl, sym, ap, ap₂, _∙_}
 use mathlib.Core.Bool.{Bool, true, false, not, _&&_}
-use mathlib.Core.List.{List, [], _∷_}
+use mathlib.Core.List.{List, _∷_}
 use native.Mathlib.Omega.{arith}
-use lib.ListN.{length, drop, getD}
+use lib.ListN.{length, getD}
 use lib.Dec.{eqb}
 use borrow.Author.Tests.{ne-eqb}
-use Rattle.basics.proofs.Tests.{by-test}
+use Rattle.basics.proofs.Tests.{by-test, and-one}
 use Rattle.text.specs.Texts.{ascii, every, begins, same}
 use Rattle.text.proofs.EveryLaws.{begins-first}
 use Rattle.text_words.specs.Words.{wordsOf}
 use Rattle.text_words.specs.Runs.{part}
 use Rattle.text_words.proofs.RunLaws.{words-some}
+use Rattle.text_words.proofs.PartLaws.{part-length, part-rest, begins-part}
 use Rattle.real.specs.Form.{Word, isLetter, isPlain, isOther, isGate, gateOf, next, stepOf}
 use Rattle.real.specs.Form.Stage.{begun, done}
 use Rattle.real.specs.Form.Step.{goes, adds, stops}
 use Rattle.real.proofs.StepLaws.{step-other, step-forbidden, step-next, next-end, next-gate, next-none}
-use Rattle.real_head.proofs.TurnLaws.{part-length, part-rest}
-use Rattle.real_head.proofs.LineLaws.{begins-part}
 use Rattle.real_gates.specs.Tokens.{isToken}
 use Rattle.real_gates.specs.Gates.{areGate}
 use Rattle.real_import.specs.Lines.{Counts}
@@ -32,11 +31,7 @@ unfolding isLetter
 t-is-none b e = sym (ap isOtherByte e)
 
 pub other-letter : (b : ℕ) → (b ≡ 116 → ⊥) → isLetter b ≡ isOtherByte b
-other-letter b d = rw (ne-eqb b 116 d) (and-one (isLetter b))
-  where
-    and-one : (a : Bool) → a ≡ (a && true)
-    and-one true = refl
-    and-one false = refl
+other-letter b d = rw (ne-eqb b 116 d) (sym (and-one (isLetter b)))
 
 -- ---- a gate by its token and its words
 

@@ -1,5 +1,5 @@
 -- Laws of the lines after .begin: what one leads to, and what is read of them all.
-use Prim.Native.Nat.{ℕ, suc, _+_, _*_, _≤_, _<_}
+use Prim.Native.Nat.{ℕ, _+_, _≤_}
 use mathlib.Core.Path.{_≡_, refl, sym, ap, _∙_}
 use mathlib.Core.List.{List, [], _∷_, _++_, append-nil, append-assoc}
 use native.Mathlib.Omega.{arith}
@@ -9,7 +9,7 @@ use Rattle.circuit.specs.Limits.{mostLines}
 use Rattle.text_words.specs.Words.{linesOf}
 use Rattle.text_words.specs.Runs.{part, LineAt}
 use Rattle.real.specs.Form.{Word, Stage, stepOf}
-use Rattle.real.specs.Form.Stage.{begun, done}
+use Rattle.real.specs.Form.Stage.{begun}
 use Rattle.real.specs.Form.Step.{goes, adds, stops}
 use Rattle.real.specs.Reading.{Reading, withGate, onward, atEnd, readFrom}
 use Rattle.real.specs.Reading.Reading.{circuit, faulty}
@@ -31,7 +31,8 @@ with-both words more (faulty number line) = refl
 -- ---- one line
 
 module _ (names : List Word) (line own : List ℕ) where
-  pub leads-on : (d then : Due) → gatesSoFar then ≡ gatesSoFar d → stepOf (stageOf names d) line ≡ goes (stageOf names then) → Leads names d line own then own
+  pub leads-on : (d then : Due) → gatesSoFar then ≡ gatesSoFar d → stepOf (stageOf names d) line ≡ goes (stageOf names then)
+      → Leads names d line own then own
   leads-on d then same e = record {
     words = [];
     step = λ at rest. ap (λ s. onward at s rest) e ∙ sym (with-none (rest (stageOf names then)));
@@ -80,7 +81,8 @@ module _ (names : List Word) (text : List ℕ) (first line : ℕ) where
       unfolding readFrom
       one-line =
           ap (readFrom here (stageOf names d)) (l .split)
-          ∙ ap (λ after. onward here (stepOf (stageOf names d) (part text at to)) (λ s. readFrom after s (linesOf (drop next text)))) (sym (add-one here))
+          ∙ ap (λ after. onward here (stepOf (stageOf names d) (part text at to)) (λ s. readFrom after s (linesOf (drop next text))))
+          (sym (add-one here))
 
       pub reads-more : (then : Due) (last : List ℕ) → Leads names d (part text at to) own then last
           → Reads names text first line next (here + 1) then last

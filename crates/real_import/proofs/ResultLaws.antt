@@ -55,6 +55,7 @@ module _ (n gates : ℕ) (own words room : List ℕ) where
   pub answers-circuit : Held n own gates words → fine ≡ firstOf rows fine → 3 * mostGates ≤ length own
       → Answers (circuit n words) room (Circuit n gates) (onto (take (3 * gates) own) room)
   answers-circuit h e wide = record {
-    tells = ap (λ d. answered (n ∷ d ∷ [])) (sym (count n gates (length room) own words h)) ∙ fine-all rows (answered (n ∷ length (gatesOf words) ∷ [])) e;
+    tells = ap (λ d. answered (n ∷ d ∷ [])) (sym (count n gates (length room) own words h)) ∙ fine-all rows
+        (answered (n ∷ length (gatesOf words) ∷ [])) e;
     leaves = ap (λ l. onto l room) (words-are n gates (length room) own words h e wide) ∙ after-fine rows (onto words room) room e;
   }

@@ -8,10 +8,10 @@ use lib.Dec.{ltb}
 use Rattle.basics.specs.Choice.{choice}
 use Rattle.circuit.specs.Limits.{mostLines}
 use Rattle.text_words.specs.Runs.{WordAt}
-use Rattle.real.specs.Form.{Word, Stage, Step, stepOf}
+use Rattle.real.specs.Form.{Word, Stage, stepOf}
 use Rattle.real.specs.Form.Stage.{begun, done}
 use Rattle.real.specs.Form.Step.{stops}
-use Rattle.real.specs.Reading.{Reading, withGate, onward, reading}
+use Rattle.real.specs.Reading.{Reading, withGate, onward}
 use Rattle.real.specs.Reading.Reading.{circuit, faulty}
 use Rattle.real_import.specs.declared.lines.Due.{Due}
 use Rattle.real_import.specs.declared.lines.Due.the-variants as due

@@ -6,8 +6,8 @@ use Rattle.basics.specs.Lists.{onto}
 use Rattle.refusals.specs.Tables.{Told, firstOf, after}
 use Rattle.refusals.specs.Tables.Told.{answered}
 use Rattle.circuit.specs.Gates.{gatesOf}
-use Rattle.real.specs.Reading.{Reading, reading}
-use Rattle.real_import.specs.Rules.{linesRead, wordsRead, readingRows, importRows}
+use Rattle.real.specs.Reading.{reading}
+use Rattle.real_import.specs.Rules.{linesRead, wordsRead, importRows}
 
 -- the number of lines and of gates
 abbrev pub importTells : List ℕ → List ℕ → Told

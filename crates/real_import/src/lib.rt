@@ -48,7 +48,10 @@ fn import_by(text: &[u8], keys: &mut [u64], own: &mut [u32], gates: &mut [u32]) 
             number,
             place: refusals::in_word(line),
         }),
-        Form::Formed { lines, gates: count } => answer(lines, count, own, gates),
+        Form::Formed {
+            lines,
+            gates: count,
+        } => answer(lines, count, own, gates),
     }
 }
 

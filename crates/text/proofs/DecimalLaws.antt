@@ -1,11 +1,11 @@
 -- Numbers in decimal: a number's text reads back as that number, has digits alone and no zero in front, and is no other number's.
 use Prim.Native.Nat.{ℕ, zero, suc, _+_, _-_, _*_, _/_, _%_, _≤_, _<_}
 use mathlib.Core.Path.{_≡_, refl, sym, ap, _∙_}
-use mathlib.Core.Bool.{Bool, true, false, not, _&&_, _||_}
+use mathlib.Core.Bool.{Bool, true, false, not}
 use mathlib.Core.List.{List, [], _∷_, _++_}
 use native.Mathlib.Omega.{arith}
 use lib.ListN.{length, length-append}
-use lib.Dec.{eqb, leb}
+use lib.Dec.{eqb}
 use borrow.Author.Tests.{le-leb, ne-eqb}
 use Rattle.basics.proofs.Tests.{and-true, or-left, or-right}
 use Rattle.text.specs.Texts.{every, begins}

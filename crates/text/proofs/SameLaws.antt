@@ -1,17 +1,17 @@
 -- Laws of texts compared.
-use Prim.Native.Nat.{ℕ, zero, suc, _+_, _-_, _<_, _≤_}
+use Prim.Native.Nat.{ℕ, suc, _+_, _<_, _≤_}
 use mathlib.Core.Path.{_≡_, refl, sym, ap, ap₂, _∙_}
-use mathlib.Core.Bool.{Bool, true, false, not, _&&_, _||_, false≢true}
-use mathlib.Core.List.{List, [], _∷_, _++_}
+use mathlib.Core.Bool.{true, false, false≢true}
+use mathlib.Core.List.{List, [], _∷_}
 use native.Mathlib.Omega.{arith}
 use native.Mathlib.Numerals.{add-one}
-use lib.ListN.{length, take, drop, getD, drop-of-length-le}
+use lib.ListN.{length, drop, getD, drop-of-length-le}
 use lib.Seq.{drop-cons}
-use lib.Dec.{eqb, ltb}
+use lib.Dec.{eqb}
 use borrow.Author.Tests.{eq-eqb, ne-eqb, eqb-true}
 use Rattle.basics.specs.Lists.{some}
-use Rattle.basics.proofs.Tests.{by-test, and-both, and-true, or-left, or-right, or-false, choice-true, choice-false}
-use Rattle.text.specs.Texts.{same, among, distinct, place}
+use Rattle.basics.proofs.Tests.{by-test, and-both, and-true, and-right, or-left, or-right, or-false, choice-true, choice-false}
+use Rattle.text.specs.Texts.{same, among, place}
 
 pub same-refl : (t : List ℕ) → same t t ≡ true
 unfolding same
@@ -31,11 +31,7 @@ unfolding same
 same-lengths [] [] d = absurd (d refl)
 same-lengths [] (c ∷ u) d = refl
 same-lengths (b ∷ t) [] d = refl
-same-lengths (b ∷ t) (c ∷ u) d = and-last (eqb b c) (same-lengths t u (λ e. d (ap suc e)))
-  where
-    and-last : (x : Bool) {y : Bool} → y ≡ false → (x && y) ≡ false
-    and-last true e = e
-    and-last false e = refl
+same-lengths (b ∷ t) (c ∷ u) d = and-right (eqb b c) (same-lengths t u (λ e. d (ap suc e)))
 
 -- from a place on: the same byte, another, none
 module _ (a b : List ℕ) (i : ℕ) where

@@ -1,22 +1,19 @@
 -- Laws of a text that is compared with a number in decimal, from its last digit on.
-use Prim.Native.Nat.{ℕ, zero, suc, _+_, _-_, _/_, _%_, _<_, _≤_}
+use Prim.Native.Nat.{ℕ, suc, _+_, _-_, _/_, _%_, _<_, _≤_}
 use mathlib.Core.Path.{_≡_, refl, sym, ap, _∙_}
-use mathlib.Core.Bool.{Bool, true, false, _&&_}
+use mathlib.Core.Bool.{false, _&&_}
 use mathlib.Core.List.{List, [], _∷_, _++_}
 use native.Mathlib.Omega.{arith}
 use lib.ListN.{length, take, getD}
 use lib.Seq.{take-suc, length-take-le}
 use lib.Dec.{eqb}
 use borrow.Author.Tests.{eq-eqb, ne-eqb}
+use Rattle.basics.proofs.Tests.{and-right, and-one}
 use Rattle.text.specs.Texts.{same}
 use Rattle.text.specs.Decimal.{digit, decimal}
 use Rattle.text.proofs.SameLaws.{same-lengths}
 use Rattle.text.proofs.TextLaws.{decimal-small, decimal-more}
 use Rattle.text.proofs.DecimalLaws.{decimal-some}
-
-and-last : (a : Bool) {b : Bool} → b ≡ false → (a && b) ≡ false
-and-last true e = e
-and-last false e = refl
 
 none-snoc : (u : List ℕ) (b : ℕ) → same [] (u ++ (b ∷ [])) ≡ false
 unfolding same
@@ -31,16 +28,16 @@ snoc-none (c ∷ v) b = refl
 pub snoc-same : (v u : List ℕ) (b d : ℕ) → b ≡ d → same (v ++ (b ∷ [])) (u ++ (d ∷ [])) ≡ same v u
 unfolding same
 snoc-same [] [] b d e = rw (eq-eqb b d e)
-snoc-same [] (c ∷ u) b d e = and-last (eqb b c) (none-snoc u d)
-snoc-same (c ∷ v) [] b d e = and-last (eqb c d) (snoc-none v b)
+snoc-same [] (c ∷ u) b d e = and-right (eqb b c) (none-snoc u d)
+snoc-same (c ∷ v) [] b d e = and-right (eqb c d) (snoc-none v b)
 snoc-same (c ∷ v) (a ∷ u) b d e = ap (λ t. eqb c a && t) (snoc-same v u b d e)
 
 pub snoc-other : (v u : List ℕ) (b d : ℕ) → (b ≡ d → ⊥) → same (v ++ (b ∷ [])) (u ++ (d ∷ [])) ≡ false
 unfolding same
 snoc-other [] [] b d e = rw (ne-eqb b d e)
-snoc-other [] (c ∷ u) b d e = and-last (eqb b c) (none-snoc u d)
-snoc-other (c ∷ v) [] b d e = and-last (eqb c d) (snoc-none v b)
-snoc-other (c ∷ v) (a ∷ u) b d e = and-last (eqb c a) (snoc-other v u b d e)
+snoc-other [] (c ∷ u) b d e = and-right (eqb b c) (none-snoc u d)
+snoc-other (c ∷ v) [] b d e = and-right (eqb c d) (snoc-none v b)
+snoc-other (c ∷ v) (a ∷ u) b d e = and-right (eqb c a) (snoc-other v u b d e)
 
 module _ (t : List ℕ) (end x : ℕ) (fits : end ≤ length t) where
   front : 1 ≤ end → take end t ≡ take (end - 1) t ++ (getD t (end - 1) 0 ∷ [])
@@ -63,10 +60,6 @@ module _ (t : List ℕ) (end x : ℕ) (fits : end ≤ length t) where
   pub digits-left : x < 10 → (end ≡ 1 → ⊥) → same (take end t) (decimal x) ≡ false
   digits-left h d = rw (decimal-small x h) (same-lengths (take end t) (digit x ∷ []) (λ g. let w = length-take-le end t fits in d (omega arith)))
 
-  pub digits-last : x < 10 → end ≡ 1 → same (take end t) (decimal x) ≡ eqb (getD t 0 0) (48 + x)
+  pub digits-last : x < 10 → end ≡ 1 → same (take end t) (decimal x) ≡ eqb (getD t (end - 1) 0) (48 + x)
   unfolding same digit
   digits-last h e = rw (decimal-small x h, e, take-suc t 0 0 (omega arith)) (and-one (eqb (getD t 0 0) (48 + x)))
-    where
-      and-one : (b : Bool) → (b && true) ≡ b
-      and-one true = refl
-      and-one false = refl

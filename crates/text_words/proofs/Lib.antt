@@ -3,3 +3,4 @@ pub mod LineLaws
 pub mod RunLaws
 pub mod DigitLaws
 pub mod PlaceLaws
+pub mod PartLaws

@@ -1,11 +1,11 @@
 -- Laws of lines: what was joined is split again.
 use Prim.Native.Nat.{ℕ}
 use mathlib.Core.Path.{_≡_, refl, sym, ap, _∙_}
-use mathlib.Core.Bool.{Bool, true, false, not, _&&_}
+use mathlib.Core.Bool.{Bool, true, false, _&&_}
 use mathlib.Core.List.{List, [], _∷_, _++_, append-nil}
 use lib.Dec.{eqb}
 use borrow.Author.Tests.{not-true, eqb-false, ne-eqb}
-use Rattle.basics.proofs.Tests.{and-both, choice-true, choice-false, by-test}
+use Rattle.basics.proofs.Tests.{and-both, choice-true, choice-false}
 use Rattle.text.specs.Texts.{every, begins}
 use Rattle.text_words.specs.Words.{inFront, linesOf}
 use Rattle.text_words.specs.Runs.{inLine}

@@ -1,23 +1,21 @@
 -- Laws of places among texts: texts are distinct where each stands at its own place.
-use Prim.Native.Nat.{ℕ, zero, suc, _+_, _-_, _<_, _≤_}
-use mathlib.Core.Path.{_≡_, refl, sym, ap, _∙_, subst}
-use mathlib.Core.Bool.{Bool, true, false, not, _&&_, _||_}
-use mathlib.Core.List.{List, [], _∷_, _++_}
+use Prim.Native.Nat.{ℕ, zero, suc, _+_, _<_, _≤_}
+use mathlib.Core.Path.{_≡_, refl, sym, ap, _∙_}
+use mathlib.Core.Bool.{true, false, not, _&&_}
+use mathlib.Core.List.{List, [], _∷_}
 use native.Mathlib.Omega.{arith}
 use native.Mathlib.Numerals.{add-one}
 use lib.ListN.{length, take, drop, getD}
 use lib.Seq.{drop-cons, length-take-le, getD-take}
-use lib.Dec.{eqb, ltb}
 use mathlib.Core.Logic.{by-cases}
 use native.Mathlib.Decide.{decLt}
-use borrow.Author.Tests.{lt-ltb, le-ltb}
 use Rattle.basics.specs.Lists.{some}
-use Rattle.basics.proofs.Tests.{by-test, and-true, or-false, or-left, or-right}
+use Rattle.basics.proofs.Tests.{by-test, and-true, and-right, or-false, or-left, or-right}
 use Rattle.text.specs.Texts.{same, among, distinct, place}
 use Rattle.text_words.specs.Words.{wordsOf}
 use Rattle.text_words.specs.Runs.{part, WordAt}
 use Rattle.text_words.proofs.RunLaws.{words-none, words-some}
-use Rattle.text.proofs.SameLaws.{same-refl, same-true, place-found, place-passed, place-none}
+use Rattle.text.proofs.SameLaws.{same-refl, place-found, place-passed, place-none}
 
 -- a text of the list is found at its place or before
 pub place-le : (us : List (List ℕ)) (i : ℕ) → i < length us → place us (getD us i []) ≤ i
@@ -53,10 +51,6 @@ among-one u [] i h e = absurd (omega arith)
 among-one u (v ∷ us) zero h e = or-left (some (same u) us) e
 among-one u (v ∷ us) (suc i) h e = or-right (same u v) (among-one u us i (omega arith) e)
 
-and-last : (a : Bool) {b : Bool} → b ≡ false → (a && b) ≡ false
-and-last true e = e
-and-last false e = refl
-
 pub distinct-true : (us : List (List ℕ)) → ((i : ℕ) → i < length us → place us (getD us i []) ≡ i) → distinct us ≡ true
 unfolding distinct
 distinct-true [] h = refl
@@ -74,7 +68,7 @@ distinct-false [] i h d = absurd (omega arith)
 distinct-false (u ∷ us) zero h d = absurd (d (place-found u us u (same-refl u)))
 distinct-false (u ∷ us) (suc i) h d = by-test (same u (getD us i []))
     (λ e. ap (λ b. not b && distinct us) (among-one u us i (omega arith) e))
-    (λ e. and-last (not (among u us)) (distinct-false us i (omega arith) (λ z. d (place-passed u us (getD us i []) e ∙ ap suc z))))
+    (λ e. and-right (not (among u us)) (distinct-false us i (omega arith) (λ z. d (place-passed u us (getD us i []) e ∙ ap suc z))))
 
 -- the same of the first k
 module _ (k : ℕ) (us : List (List ℕ)) (fits : k ≤ length us) where

@@ -1,14 +1,14 @@
 -- Laws of runs, one for each outcome of a turn, and the lines and words that runs make.
-use Prim.Native.Nat.{ℕ, zero, suc, _+_, _-_, _<_, _≤_}
+use Prim.Native.Nat.{ℕ, suc, _+_, _-_, _<_, _≤_}
 use mathlib.Core.Path.{_≡_, refl, sym, ap, _∙_, subst}
 use mathlib.Core.Bool.{Bool, true, false, not, false≢true}
 use mathlib.Core.List.{List, [], _∷_, _++_, append-nil}
 use native.Mathlib.Omega.{arith}
 use native.Mathlib.Numerals.{add-one}
-use lib.ListN.{length, take, drop, getD, take-append-drop, drop-of-length-le}
+use lib.ListN.{length, drop, getD, take-append-drop, drop-of-length-le}
 use lib.Seq.{drop-cons, drop-drop}
 use lib.Dec.{eqb}
-use borrow.Author.Tests.{not-false, not-true, eq-eqb, ne-eqb, eqb-true}
+use borrow.Author.Tests.{not-false, eq-eqb, ne-eqb, eqb-true}
 use mathlib.Core.Logic.{by-cases}
 use native.Mathlib.Decide.{decLt}
 use Rattle.basics.proofs.Tests.{and-both, and-true, choice-true, choice-false, by-equal}
@@ -83,7 +83,8 @@ word-at line at from to blanks ink = record {
   fits = ink .fits;
   split = ap wordsOf (parted line at from (blanks .start)) ∙ blanks-first (part line at from) (drop from line) (blanks .all)
       ∙ by-equal from to
-      (λ e. ap wordsOf (no-word line at from blanks (subst (λ (t : ℕ). RunTo isInk line from t) (sym e) ink)) ∙ sym (choice-true (eq-eqb from to e) _ _))
+      (λ e. ap wordsOf (no-word line at from blanks (subst (λ (t : ℕ). RunTo isInk line from t) (sym e) ink)) ∙ sym
+      (choice-true (eq-eqb from to e) _ _))
       (λ d. a-word line from to ink (omega arith) ∙ sym (choice-false (ne-eqb from to d) _ _));
 }
 

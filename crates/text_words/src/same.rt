@@ -108,5 +108,5 @@ pub fn is_decimal(t: &[u8], number: usize) -> bool
     if end != 1 {
         return false;
     }
-    t[0] == 48 + x as u8
+    t[end - 1] == 48 + x as u8
 }

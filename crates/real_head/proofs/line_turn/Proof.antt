@@ -1,22 +1,24 @@
 -- `real_head::line_turn` meets its contract: a line with no word, or whose first word begins with #, is skipped, and any other is read by its stage.
 -- Assumes nothing.
 use Prim.Native.Nat.{ℕ}
-use mathlib.Core.Path.{_≡_, refl, sym, ap, _∙_}
-use mathlib.Core.Bool.{true, false}
+use mathlib.Core.Path.{_≡_, sym, ap, _∙_}
 use mathlib.Core.List.{List, _∷_}
 use native.Mathlib.Omega.{arith}
 use lib.ListN.{drop, getD}
 use lib.Dec.{eqb}
 use borrow.Author.Needs.{needs}
 use borrow.Author.Tests.{eq-eqb, ne-eqb, not-true, not-false}
+use Rattle.basics.proofs.Tests.{and-left}
 use Rattle.text.specs.Texts.{begins}
 use Rattle.text_words.specs.Words.{wordsOf}
 use Rattle.text_words.specs.Runs.{part}
 use Rattle.text_words.proofs.RunLaws.{words-none, words-some}
-use Rattle.real.specs.Form.{Word, Stage, next}
+use Rattle.text_words.proofs.PartLaws.{part-rest, begins-part}
+use Rattle.real.specs.Form.{Word, Stage, isOther, next}
+use Rattle.real.proofs.StepLaws.{step-blank, step-comment, step-forbidden, step-next}
 use Rattle.real_head.specs.Stages.{stageOf}
-use Rattle.real_head.proofs.TurnLaws.{stops-turn, goes-turn, step-as, part-stands, rest-stands, part-rest}
-use Rattle.real_head.proofs.LineLaws.{blank-step, word-step, head-due, begins-part}
+use Rattle.real_head.proofs.TurnLaws.{stops-turn, goes-turn, step-as, part-stands, rest-stands}
+use Rattle.real_head.proofs.LineLaws.{head-due}
 use Rattle.real_head.proofs.line_turn.Statement.{statement}
 use Rattle.real_head.proofs.line_turn.Tie as tie
 
@@ -64,7 +66,7 @@ returns : tie.Need-returns
 returns c =
     let n = c .before in
     goes-turn (entry n .args .text .now) _ _
-    (blank-step (stage n) (line n) (words-none (line n) 0 _ _ (n .next-word .ensures) (c .if1 .taken))) (entry n .pre .2)
+    (step-blank (stage n) (line n) (words-none (line n) 0 _ _ (n .next-word .ensures) (c .if1 .taken))) (entry n .pre .2)
 
 shared-slice-read-if2 : tie.Need-shared-slice-read-if2
 shared-slice-read-if2 c = search needs
@@ -74,8 +76,7 @@ returns-2 c =
     let e = c .before .before in
     let n = e .before in
     goes-turn (entry n .args .text .now) _ _
-    (word-step (stage n) (line n) (word n) (more n) true _ (split e) (head-due (entry n .args .text .now) (entry n .args .due))
-    (first-byte e ∙ eq-eqb 35 _ (sym (c .if2 .taken))) refl)
+    (step-comment (stage n) (line n) (word n) (more n) (split e) (first-byte e ∙ eq-eqb 35 _ (sym (c .if2 .taken))))
     (entry n .pre .2)
 
 all-plain-requires : tie.Need-all-plain-requires
@@ -86,8 +87,8 @@ returns-3 c =
     let e = seen (c .before) in
     let n = e .before in
     stops-turn (entry n .args .text .now) _ 14
-    (word-step (stage n) (line n) (word n) (more n) false false (split e) (head-due (entry n .args .text .now) (entry n .args .due))
-    (first-byte e ∙ ne-eqb 35 _ (λ z. c .before .before .if2 .left (sym z)))
+    (step-forbidden (stage n) (line n) (word n) (more n) (split e) (first-byte e ∙ ne-eqb 35 _ (λ z. c .before .before .if2 .left (sym z)))
+    (and-left (isOther (word n)) (head-due (entry n .args .text .now) (entry n .args .due)))
     (sym (c .before .all-plain .ensures) ∙ not-true _ (c .if3 .taken)))
 
 sub-due-turn : tie.Need-sub-due-turn
@@ -125,8 +126,8 @@ returns-4 c =
     let n = e .before in
     let a = entry n .args in
     step-as (a .text .now) _ _ _
-    (word-step (stage n) (line n) (word n) (more n) false true (split e) (head-due (a .text .now) (a .due))
-    (first-byte e ∙ ne-eqb 35 _ (λ z. told .before .before .if2 .left (sym z)))
+    (step-next (stage n) (line n) (word n) (more n) (split e) (first-byte e ∙ ne-eqb 35 _ (λ z. told .before .before .if2 .left (sym z)))
+    (and-left (isOther (word n)) (head-due (a .text .now) (a .due)))
     (sym (told .before .all-plain .ensures) ∙ not-false _ (told .if3 .left))
     ∙ ap (λ r. next (stage n) (word n) (wordsOf r)) (sym (part-rest (line n) (n .next-word .result .to))))
     (c .due-turn .ensures)

@@ -12,7 +12,8 @@ use Rattle.text_words.specs.Words.{wordsOf}
 use Rattle.text_words.proofs.PlaceLaws.{Listed, listed}
 use Rattle.real.specs.Form.Stage.{counted}
 use Rattle.real.specs.Form.Step.{goes}
-use Rattle.real_head.proofs.TurnLaws.{stops-turn, goes-turn, part-length, part-part, numvars-next}
+use Rattle.text_words.proofs.PartLaws.{part-length}
+use Rattle.real_head.proofs.TurnLaws.{stops-turn, goes-turn, part-part, numvars-next}
 use Rattle.real_head.proofs.numvars.Statement.{statement}
 use Rattle.real_head.proofs.numvars.Tie as tie
 

@@ -50,15 +50,15 @@ slice-aggregate-same c = search needs
 same-requires : tie.Need-same-requires
 same-requires c κs = search needs
 
-when-requires : tie.Need-when-requires
-when-requires c κs = search needs
+part-when-requires : tie.Need-part-when-requires
+part-when-requires c κs = search needs
 
 returns : tie.Need-returns
 unfolding ascii
 returns c =
     let s = entry (c .before .before) in
     let a = s .args in
-    when-turn (a .text .now) _ (a .inputs) (due.Part (a .from) (a .to) false (a .outputs) (a .garbage) (a .constants)) _ (c .when .ensures)
+    when-turn (a .text .now) _ (a .inputs) (due.Part (a .from) (a .to) false (a .outputs) (a .garbage) (a .constants)) _ (c .part-when .ensures)
     (next-as _ (a .word .now) (ascii ".inputs") (more s) _ (sym (c .before .before .same .ensures) ∙ c .before .if1 .taken)
     (inputs-next (names s) (more s) (a .inputs) (a .outputs) (a .garbage) (a .constants)))
     (s .pre .0)
@@ -69,15 +69,15 @@ slice-aggregate-same-2 c = search needs
 same-requires-2 : tie.Need-same-requires-2
 same-requires-2 c κs = search needs
 
-when-requires-2 : tie.Need-when-requires-2
-when-requires-2 c κs = search needs
+part-when-requires-2 : tie.Need-part-when-requires-2
+part-when-requires-2 c κs = search needs
 
 returns-2 : tie.Need-returns-2
 unfolding ascii
 returns-2 c =
     let s = entry (first (c .before .before) .before) in
     let a = s .args in
-    when-turn (a .text .now) _ (a .outputs) (due.Part (a .from) (a .to) (a .inputs) false (a .garbage) (a .constants)) _ (c .when2 .ensures)
+    when-turn (a .text .now) _ (a .outputs) (due.Part (a .from) (a .to) (a .inputs) false (a .garbage) (a .constants)) _ (c .part-when2 .ensures)
     (next-as _ (a .word .now) (ascii ".outputs") (more s) _ (sym (c .before .before .same2 .ensures) ∙ c .before .if2 .taken)
     (outputs-next (names s) (more s) (a .inputs) (a .outputs) (a .garbage) (a .constants)))
     (s .pre .0)
@@ -88,15 +88,15 @@ slice-aggregate-same-3 c = search needs
 same-requires-3 : tie.Need-same-requires-3
 same-requires-3 c κs = search needs
 
-when-requires-3 : tie.Need-when-requires-3
-when-requires-3 c κs = search needs
+part-when-requires-3 : tie.Need-part-when-requires-3
+part-when-requires-3 c κs = search needs
 
 returns-3 : tie.Need-returns-3
 unfolding ascii
 returns-3 c =
     let s = entry (first (second (c .before .before) .before) .before) in
     let a = s .args in
-    when-turn (a .text .now) _ (a .garbage) (due.Part (a .from) (a .to) (a .inputs) (a .outputs) false (a .constants)) _ (c .when3 .ensures)
+    when-turn (a .text .now) _ (a .garbage) (due.Part (a .from) (a .to) (a .inputs) (a .outputs) false (a .constants)) _ (c .part-when3 .ensures)
     (next-as _ (a .word .now) (ascii ".garbage") (more s) _ (sym (c .before .before .same3 .ensures) ∙ c .before .if3 .taken)
     (garbage-next (names s) (more s) (a .inputs) (a .outputs) (a .garbage) (a .constants)))
     (s .pre .0)
@@ -142,8 +142,8 @@ returns-5 c =
     (constants-wrong (names s) (more s) (a .inputs) (a .outputs) (a .garbage) (a .constants)
     (sym (c .before .is-constants .ensures) ∙ not-true _ (c .if5 .taken))))
 
-when-requires-4 : tie.Need-when-requires-4
-when-requires-4 c κs = search needs
+part-when-requires-4 : tie.Need-part-when-requires-4
+part-when-requires-4 c κs = search needs
 
 returns-6 : tie.Need-returns-6
 returns-6 c =
@@ -151,7 +151,7 @@ returns-6 c =
     let w = worded (told .before) in
     let s = start (w .before) in
     let a = s .args in
-    when-turn (a .text .now) _ (a .constants) (due.Part (a .from) (a .to) (a .inputs) (a .outputs) (a .garbage) false) _ (c .when4 .ensures)
+    when-turn (a .text .now) _ (a .constants) (due.Part (a .from) (a .to) (a .inputs) (a .outputs) (a .garbage) false) _ (c .part-when4 .ensures)
     (next-as _ (a .word .now) (ascii ".constants") (more s) _ (is-word w)
     (constants-next (names s) (more s) (a .inputs) (a .outputs) (a .garbage) (a .constants)
     (sym (told .before .is-constants .ensures) ∙ not-false _ (told .if5 .left))))
@@ -163,15 +163,15 @@ optional-spec =
     (tie.spec
     slice-aggregate-same
     same-requires
-    when-requires
+    part-when-requires
     returns
     slice-aggregate-same-2
     same-requires-2
-    when-requires-2
+    part-when-requires-2
     returns-2
     slice-aggregate-same-3
     same-requires-3
-    when-requires-3
+    part-when-requires-3
     returns-3
     slice-aggregate-same-4
     same-requires-4
@@ -181,5 +181,5 @@ optional-spec =
     part-is-constants-end
     is-constants-requires
     returns-5
-    when-requires-4
+    part-when-requires-4
     returns-6)

@@ -48,7 +48,8 @@ told c = c .before .before
 as-many : (c : tie.After-is-decimal) →
     same (start (counts (told c)) .args .number .now) (decimal (length (wordsOf (start (counts (told c)) .args .rest .now)))) ≡ c .is-decimal .result
 as-many c =
-    ap (λ m. same (start (counts (told c)) .args .number .now) (decimal m)) (sym (told c .before .count-words .ensures)) ∙ sym (c .is-decimal .ensures)
+    ap (λ m. same (start (counts (told c)) .args .number .now) (decimal m)) (sym (told c .before .count-words .ensures)) ∙ sym
+    (c .is-decimal .ensures)
 
 slice-aggregate-same : tie.Need-slice-aggregate-same
 slice-aggregate-same c = search needs

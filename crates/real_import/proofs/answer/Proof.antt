@@ -41,8 +41,7 @@ module _ (c : tie.After-enum-told) where
       let a = s .args in
       let words = s .pre .1 .0 in
       let h = s .pre .1 .1 in
-      let e = passed words h in
-      (
+      let e = passed words h in (
         lines-fit (a .lines) (a .count) (length (a .gates .now)) (a .own .now) words h e (s .pre .0),
         gates-fit (a .lines) (a .count) (length (a .gates .now)) (a .own .now) words h e (s .pre .0),
         room-fits (a .lines) (a .count) (length (a .gates .now)) (a .own .now) words h e (s .pre .0),
@@ -68,7 +67,12 @@ slice-aggregate-store c =
 store-requires : tie.Need-store-requires
 store-requires c κs =
     let s = entry (checked (c .before .before)) in
-    omega (arith, length-take-le (3 * s .args .count) (s .args .own .now) (omega (arith, s .pre .0, some-fit (c .before .before) .1)), some-fit (c .before .before) .2)
+    omega (
+      arith,
+      length-take-le (3 * s .args .count) (s .args .own .now) (omega (arith, s .pre .0, some-fit (c .before .before) .1)),
+      some-fit
+          (c .before .before) .2,
+    )
 
 cast-t15 : tie.Need-cast-t15
 cast-t15 c = omega (arith, some-fit (c .before .before .before .before .before) .0)
@@ -91,7 +95,8 @@ returns-2 c words h =
     let t = c .before .before .before .before .before in
     let s = entry (checked t) in
     let a = s .args in
-    rw (c .before .before .store .ensures) (answers-circuit (a .lines) (a .count) (a .own .now) words (a .gates .now) h (passed t words h) (s .pre .0))
+    rw (c .before .before .store .ensures) (answers-circuit (a .lines) (a .count) (a .own .now) words (a .gates .now) h (passed t words h)
+    (s .pre .0))
 
 pub answer-spec : {M : Type 1} → statement M
 answer-spec =

@@ -1,5 +1,4 @@
 -- `real_import::import` meets its contract: it lends two lists of its own, the second as long as the gates of a circuit may be. Assumes nothing.
-use native.Mathlib.Omega.{arith}
 use borrow.Author.Needs.{needs}
 use Rattle.real_import.specs.Rules.{importRows}
 use Rattle.real_import.proofs.import.Statement.{statement}

@@ -1,6 +1,6 @@
 -- `real_import::import_by` meets its contract: what the text is read as decides, a faulty line by its number, a circuit by its rules.
 -- Assumes nothing.
-use mathlib.Core.Path.{_≡_, sym, subst}
+use mathlib.Core.Path.{_≡_, subst}
 use mathlib.Core.List.{List}
 use Prim.Native.Nat.{ℕ}
 use native.Mathlib.Omega.{arith}

@@ -1,13 +1,10 @@
 -- `real::spelling::all_hyphens` meets its contract: each turn passes one hyphen. Assumes nothing.
-use Prim.Native.Nat.{_+_, _-_, _*_, _<_, _≤_}
+use Prim.Native.Nat.{_-_, _≤_}
 use native.Mathlib.Omega.{arith}
-use mathlib.Core.Path.{_≡_, refl, sym, ap, _∙_}
-use borrow.Author.Needs.{needs}
-use lib.ListN.{length, drop, length-set, length-append}
-use lib.Seq.{sets}
-use borrow.Author.Tests.{eq-eqb, ne-eqb, le-leb, lt-leb, not-true, not-false}
-use Rattle.real.specs.Form.{isLetter, isPlain, isName, isGate}
-use Rattle.text.specs.Texts.{every, among, distinct}
+use mathlib.Core.Path.{_≡_, refl, sym, _∙_}
+use lib.ListN.{length, drop}
+use borrow.Author.Tests.{eq-eqb, ne-eqb}
+use Rattle.text.specs.Texts.{every}
 use Rattle.text.proofs.EveryLaws.{all-passed, all-failed, all-ended}
 use lib.Dec.{eqb}
 use lib.ListN.{getD}
@@ -30,7 +27,14 @@ shared-slice-read-if2 : tie.Need-shared-slice-read-if2 Inv-loop μ-loop
 shared-slice-read-if2 c = omega arith
 
 returns-2 : tie.Need-returns-2 Inv-loop μ-loop
-returns-2 c = let l = c .before .before .before .loop in let a = c .before .before .before .before .before .args in rw (eq-eqb (length (a .word .now)) (a .number) (l .inv .0), l .inv .1 .1 ∙ all-failed (eqb 45) (a .word .now) (l .i) (omega arith) (ne-eqb 45 (getD (a .word .now) (l .i) 0) (λ e. c .if2 .taken (sym e))))
+returns-2 c =
+    let l = c .before .before .before .loop in
+    let a = c .before .before .before .before .before .args in
+    rw (
+      eq-eqb (length (a .word .now)) (a .number) (l .inv .0),
+      l .inv .1 .1 ∙ all-failed (eqb 45) (a .word .now) (l .i) (omega arith)
+          (ne-eqb 45 (getD (a .word .now) (l .i) 0) (λ e. c .if2 .taken (sym e))),
+    )
 
 add-i : tie.Need-add-i Inv-loop μ-loop
 add-i c = omega arith
@@ -39,10 +43,22 @@ loop-less : tie.Need-loop-less Inv-loop μ-loop
 loop-less c = omega arith
 
 loop-again : tie.Need-loop-again Inv-loop μ-loop
-loop-again c = let l = c .before .before .before .loop in let a = c .before .before .before .before .before .args in (l .inv .0, (omega arith, l .inv .1 .1 ∙ all-passed (eqb 45) (a .word .now) (l .i) (omega arith) (eq-eqb 45 (getD (a .word .now) (l .i) 0) (sym (c .if2 .left)))))
+loop-again c =
+    let l = c .before .before .before .loop in
+    let a = c .before .before .before .before .before .args in (
+      l .inv .0,
+      (
+        omega arith,
+        l .inv .1 .1 ∙ all-passed (eqb 45) (a .word .now) (l .i) (omega arith)
+            (eq-eqb 45 (getD (a .word .now) (l .i) 0) (sym (c .if2 .left))),
+      ),
+    )
 
 returns-3 : tie.Need-returns-3 Inv-loop μ-loop
-returns-3 c = let l = c .before .loop in let a = c .before .before .before .args in rw (eq-eqb (length (a .word .now)) (a .number) (l .inv .0), l .inv .1 .1 ∙ all-ended (eqb 45) (a .word .now) (l .i) (omega arith))
+returns-3 c =
+    let l = c .before .loop in
+    let a = c .before .before .before .args in
+    rw (eq-eqb (length (a .word .now)) (a .number) (l .inv .0), l .inv .1 .1 ∙ all-ended (eqb 45) (a .word .now) (l .i) (omega arith))
 
 pub all-hyphens-spec : {M : Type 1} → statement M
 all-hyphens-spec =

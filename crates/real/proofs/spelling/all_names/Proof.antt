@@ -1,13 +1,12 @@
 -- `real::spelling::all_names` meets its contract: each turn passes one name. Assumes nothing.
-use Prim.Native.Nat.{_+_, _-_, _*_, _<_, _≤_}
+use Prim.Native.Nat.{_-_, _≤_}
 use native.Mathlib.Omega.{arith}
 use mathlib.Core.Path.{_≡_, refl, sym, ap, _∙_}
 use borrow.Author.Needs.{needs}
-use lib.ListN.{length, drop, length-set, length-append}
-use lib.Seq.{sets}
-use borrow.Author.Tests.{eq-eqb, ne-eqb, le-leb, lt-leb, not-true, not-false}
-use Rattle.real.specs.Form.{isLetter, isPlain, isName, isGate}
-use Rattle.text.specs.Texts.{every, among, distinct}
+use lib.ListN.{length, drop}
+use borrow.Author.Tests.{not-true, not-false}
+use Rattle.real.specs.Form.{isName}
+use Rattle.text.specs.Texts.{every}
 use Rattle.text_words.specs.Words.{wordsOf}
 use Rattle.text_words.proofs.RunLaws.{words-none, words-some}
 use Rattle.text.proofs.EveryLaws.{every-passed, every-failed, every-nil}
@@ -27,28 +26,67 @@ next-word-requires : tie.Need-next-word-requires Inv-loop μ-loop
 next-word-requires c κs = search needs
 
 returns : tie.Need-returns Inv-loop μ-loop
-returns c = let l = c .before .before .loop in let a = c .before .before .before .before .args in let n = c .before .next-word in let w = n .ensures in sym (l .inv .1 ∙ ap (every isName) (words-none (a .line .now) (l .at) _ _ w (c .if1 .taken)) ∙ every-nil isName)
+returns c =
+    let l = c .before .before .loop in
+    let a = c .before .before .before .before .args in
+    let n = c .before .next-word in
+    let w = n .ensures in
+    sym (l .inv .1 ∙ ap (every isName) (words-none (a .line .now) (l .at) _ _ w (c .if1 .taken)) ∙ every-nil isName)
 
 sub-is-name : tie.Need-sub-is-name Inv-loop μ-loop
-sub-is-name c = let l = c .before .before .loop in let a = c .before .before .before .before .args in let n = c .before .next-word in let w = n .ensures in omega arith
+sub-is-name c =
+    let l = c .before .before .loop in
+    let a = c .before .before .before .before .args in
+    let n = c .before .next-word in
+    let w = n .ensures in
+    omega arith
 
 part-is-name-start : tie.Need-part-is-name-start Inv-loop μ-loop
-part-is-name-start c = let l = c .before .before .loop in let a = c .before .before .before .before .args in let n = c .before .next-word in let w = n .ensures in omega arith
+part-is-name-start c =
+    let l = c .before .before .loop in
+    let a = c .before .before .before .before .args in
+    let n = c .before .next-word in
+    let w = n .ensures in
+    omega arith
 
 part-is-name-end : tie.Need-part-is-name-end Inv-loop μ-loop
-part-is-name-end c = let l = c .before .before .loop in let a = c .before .before .before .before .args in let n = c .before .next-word in let w = n .ensures in omega arith
+part-is-name-end c =
+    let l = c .before .before .loop in
+    let a = c .before .before .before .before .args in
+    let n = c .before .next-word in
+    let w = n .ensures in
+    omega arith
 
 is-name-requires : tie.Need-is-name-requires Inv-loop μ-loop
 is-name-requires c κs = search needs
 
 returns-2 : tie.Need-returns-2 Inv-loop μ-loop
-returns-2 c = let l = c .before .before .before .before .before .loop in let a = c .before .before .before .before .before .before .before .args in let n = c .before .before .before .before .next-word in let w = n .ensures in sym (l .inv .1 ∙ ap (every isName) (words-some (a .line .now) (l .at) _ _ w (c .before .before .before .if1 .left)) ∙ every-failed isName _ _ (sym (c .before .is-name .ensures) ∙ not-true _ (c .if2 .taken)))
+returns-2 c =
+    let l = c .before .before .before .before .before .loop in
+    let a = c .before .before .before .before .before .before .before .args in
+    let n = c .before .before .before .before .next-word in
+    let w = n .ensures in
+    sym (l .inv .1 ∙ ap (every isName) (words-some (a .line .now) (l .at) _ _ w (c .before .before .before .if1 .left)) ∙ every-failed isName _ _
+    (sym (c .before .is-name .ensures) ∙ not-true _ (c .if2 .taken)))
 
 loop-less : tie.Need-loop-less Inv-loop μ-loop
-loop-less c = let l = c .before .before .before .before .before .loop in let a = c .before .before .before .before .before .before .before .args in let n = c .before .before .before .before .next-word in let w = n .ensures in omega arith
+loop-less c =
+    let l = c .before .before .before .before .before .loop in
+    let a = c .before .before .before .before .before .before .before .args in
+    let n = c .before .before .before .before .next-word in
+    let w = n .ensures in
+    omega arith
 
 loop-again : tie.Need-loop-again Inv-loop μ-loop
-loop-again c = let l = c .before .before .before .before .before .loop in let a = c .before .before .before .before .before .before .before .args in let n = c .before .before .before .before .next-word in let w = n .ensures in (omega arith, l .inv .1 ∙ ap (every isName) (words-some (a .line .now) (l .at) _ _ w (c .before .before .before .if1 .left)) ∙ every-passed isName _ _ (sym (c .before .is-name .ensures) ∙ not-false _ (c .if2 .left)))
+loop-again c =
+    let l = c .before .before .before .before .before .loop in
+    let a = c .before .before .before .before .before .before .before .args in
+    let n = c .before .before .before .before .next-word in
+    let w = n .ensures in (
+      omega arith,
+      l .inv .1 ∙ ap (every isName) (words-some (a .line .now) (l .at) _ _ w (c .before .before .before .if1 .left))
+          ∙ every-passed isName _ _ (sym (c .before .is-name .ensures) ∙ not-false _ (c .if2 .left)),
+    )
 
 pub all-names-spec : {M : Type 1} → statement M
 all-names-spec =

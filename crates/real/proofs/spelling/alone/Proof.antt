@@ -1,21 +1,12 @@
 -- `real::spelling::alone` meets its contract. Assumes nothing.
-use Prim.Native.Nat.{_+_, _-_, _*_, _<_, _≤_}
-use native.Mathlib.Omega.{arith}
-use mathlib.Core.Path.{_≡_, refl, sym, ap, _∙_}
+use mathlib.Core.Path.{sym, ap, _∙_}
 use borrow.Author.Needs.{needs}
-use lib.ListN.{length, drop, length-set, length-append}
-use lib.Seq.{sets}
-use borrow.Author.Tests.{eq-eqb, ne-eqb, not-true, not-false}
+use lib.ListN.{length}
+use borrow.Author.Tests.{not-true, not-false}
 use lib.Dec.{eqb}
-use lib.ListN.{take, getD, length-take}
 use mathlib.Core.Bool.{_&&_}
-use mathlib.Core.List.{[]}
-use Rattle.text.specs.Texts.{ascii, every, same}
+use Rattle.text.specs.Texts.{same}
 use Rattle.text_words.specs.Words.{wordsOf}
-use Rattle.text_words.specs.Runs.{part}
-use Rattle.text.specs.Decimal.{isNumber}
-use Rattle.text_words.proofs.PlaceLaws.{listed}
-use borrow.Author.Needs.{needs}
 use Rattle.real.proofs.spelling.alone.Statement.{statement}
 use Rattle.real.proofs.spelling.alone.Tie as tie
 
@@ -23,13 +14,18 @@ same-requires : tie.Need-same-requires
 same-requires c κs = search needs
 
 returns : tie.Need-returns
-returns c = let a = c .before .before .before .before .before .args in sym (ap (λ b. b && eqb (length (wordsOf (a .rest .now))) 0) (sym (c .before .same .ensures) ∙ not-true _ (c .if1 .taken)))
+returns c =
+    let a = c .before .before .before .before .before .args in
+    sym (ap (λ b. b && eqb (length (wordsOf (a .rest .now))) 0) (sym (c .before .same .ensures) ∙ not-true _ (c .if1 .taken)))
 
 count-words-requires : tie.Need-count-words-requires
 count-words-requires c κs = search needs
 
 returns-2 : tie.Need-returns-2
-returns-2 c = let a = c .before .before .before .before .before .before .args in ap (λ k. eqb k 0) (c .count-words .ensures) ∙ sym (ap (λ b. b && eqb (length (wordsOf (a .rest .now))) 0) (sym (c .before .before .same .ensures) ∙ not-false _ (c .before .if1 .left)))
+returns-2 c =
+    let a = c .before .before .before .before .before .before .args in
+    ap (λ k. eqb k 0) (c .count-words .ensures) ∙ sym
+    (ap (λ b. b && eqb (length (wordsOf (a .rest .now))) 0) (sym (c .before .before .same .ensures) ∙ not-false _ (c .before .if1 .left)))
 
 pub alone-spec : {M : Type 1} → statement M
 alone-spec = tie.close (tie.spec same-requires returns count-words-requires returns-2)

@@ -1,12 +1,7 @@
 -- `real::spelling::is_letter` meets its contract. Assumes nothing.
-use Prim.Native.Nat.{_+_, _-_, _*_, _<_, _≤_}
 use native.Mathlib.Omega.{arith}
-use mathlib.Core.Path.{_≡_, refl, sym, ap, _∙_}
-use borrow.Author.Needs.{needs}
-use lib.ListN.{length, drop, length-set, length-append}
-use lib.Seq.{sets}
-use borrow.Author.Tests.{eq-eqb, ne-eqb, le-leb, lt-leb, not-true, not-false}
-use Rattle.real.specs.Form.{isLetter, isPlain, isName, isGate}
+use borrow.Author.Tests.{le-leb, lt-leb}
+use Rattle.real.specs.Form.{isLetter}
 use Rattle.real.proofs.spelling.is_letter.Statement.{statement}
 use Rattle.real.proofs.spelling.is_letter.Tie as tie
 

@@ -1,13 +1,12 @@
 -- `real::spelling::is_name` meets its contract: each turn passes one byte. Assumes nothing.
-use Prim.Native.Nat.{_+_, _-_, _*_, _<_, _≤_}
+use Prim.Native.Nat.{_-_, _≤_}
 use native.Mathlib.Omega.{arith}
-use mathlib.Core.Path.{_≡_, refl, sym, ap, _∙_}
+use mathlib.Core.Path.{_≡_, refl, sym, _∙_}
 use borrow.Author.Needs.{needs}
-use lib.ListN.{length, drop, length-set, length-append}
-use lib.Seq.{sets}
-use borrow.Author.Tests.{eq-eqb, ne-eqb, le-leb, lt-leb, not-true, not-false}
-use Rattle.real.specs.Form.{isLetter, isPlain, isName, isGate}
-use Rattle.text.specs.Texts.{every, among, distinct}
+use lib.ListN.{length, drop}
+use borrow.Author.Tests.{not-true, not-false}
+use Rattle.real.specs.Form.{isName}
+use Rattle.text.specs.Texts.{every}
 use Rattle.text.proofs.EveryLaws.{all-passed, all-failed, all-ended}
 use Rattle.real.specs.Form.{isNameByte}
 use Rattle.real.proofs.spelling.is_name.Statement.{statement}
@@ -30,7 +29,10 @@ is-name-byte-requires c κs = search needs
 
 returns : tie.Need-returns Inv-loop μ-loop
 unfolding isName
-returns c = let l = c .before .before .before .before .loop in let a = c .before .before .before .before .before .before .args in rw (l .inv .1 ∙ all-failed isNameByte (a .word .now) (l .i) (omega arith) (sym (c .before .is-name-byte .ensures) ∙ not-true _ (c .if1 .taken)))
+returns c =
+    let l = c .before .before .before .before .loop in
+    let a = c .before .before .before .before .before .before .args in
+    rw (l .inv .1 ∙ all-failed isNameByte (a .word .now) (l .i) (omega arith) (sym (c .before .is-name-byte .ensures) ∙ not-true _ (c .if1 .taken)))
 
 add-i : tie.Need-add-i Inv-loop μ-loop
 add-i c = omega arith
@@ -39,11 +41,20 @@ loop-less : tie.Need-loop-less Inv-loop μ-loop
 loop-less c = omega arith
 
 loop-again : tie.Need-loop-again Inv-loop μ-loop
-loop-again c = let l = c .before .before .before .before .loop in let a = c .before .before .before .before .before .before .args in (omega arith, l .inv .1 ∙ all-passed isNameByte (a .word .now) (l .i) (omega arith) (sym (c .before .is-name-byte .ensures) ∙ not-false _ (c .if1 .left)))
+loop-again c =
+    let l = c .before .before .before .before .loop in
+    let a = c .before .before .before .before .before .before .args in (
+      omega arith,
+      l .inv .1 ∙ all-passed isNameByte (a .word .now) (l .i) (omega arith)
+          (sym (c .before .is-name-byte .ensures) ∙ not-false _ (c .if1 .left)),
+    )
 
 returns-2 : tie.Need-returns-2 Inv-loop μ-loop
 unfolding isName
-returns-2 c = let l = c .before .loop in let a = c .before .before .before .args in rw (l .inv .1 ∙ all-ended isNameByte (a .word .now) (l .i) (omega arith))
+returns-2 c =
+    let l = c .before .loop in
+    let a = c .before .before .before .args in
+    rw (l .inv .1 ∙ all-ended isNameByte (a .word .now) (l .i) (omega arith))
 
 pub is-name-spec : {M : Type 1} → statement M
 is-name-spec =

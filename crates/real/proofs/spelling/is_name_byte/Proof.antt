@@ -1,12 +1,5 @@
 -- `real::spelling::is_name_byte` meets its contract. Assumes nothing.
-use Prim.Native.Nat.{_+_, _-_, _*_, _<_, _≤_}
-use native.Mathlib.Omega.{arith}
-use mathlib.Core.Path.{_≡_, refl, sym, ap, _∙_}
-use borrow.Author.Needs.{needs}
-use lib.ListN.{length, drop, length-set, length-append}
-use lib.Seq.{sets}
-use borrow.Author.Tests.{eq-eqb, ne-eqb, le-leb, lt-leb, not-true, not-false}
-use Rattle.real.specs.Form.{isLetter, isPlain, isName, isGate}
+use mathlib.Core.Path.{sym, _∙_}
 use borrow.Author.Needs.{needs}
 use Rattle.real.proofs.spelling.is_name_byte.Statement.{statement}
 use Rattle.real.proofs.spelling.is_name_byte.Tie as tie
@@ -21,10 +14,18 @@ is-digit-requires : tie.Need-is-digit-requires
 is-digit-requires c κs = search needs
 
 returns-2 : tie.Need-returns-2
-returns-2 c = rw (sym (c .before .before .before .is-letter .ensures) ∙ c .before .before .if1 .left, sym (c .before .is-digit .ensures) ∙ c .if2 .taken)
+returns-2 c = rw (
+  sym (c .before .before .before .is-letter .ensures) ∙ c .before .before .if1 .left,
+  sym (c .before .is-digit .ensures)
+      ∙ c .if2 .taken,
+)
 
 returns-3 : tie.Need-returns-3
-returns-3 c = rw (sym (c .before .before .before .is-letter .ensures) ∙ c .before .before .if1 .left, sym (c .before .is-digit .ensures) ∙ c .if2 .left)
+returns-3 c = rw (
+  sym (c .before .before .before .is-letter .ensures) ∙ c .before .before .if1 .left,
+  sym (c .before .is-digit .ensures)
+      ∙ c .if2 .left,
+)
 
 pub is-name-byte-spec : {M : Type 1} → statement M
 is-name-byte-spec =

@@ -1,12 +1,6 @@
 -- `real::spelling::is_plain` meets its contract. Assumes nothing.
-use Prim.Native.Nat.{_+_, _-_, _*_, _<_, _≤_}
-use native.Mathlib.Omega.{arith}
-use mathlib.Core.Path.{_≡_, refl, sym, ap, _∙_}
-use borrow.Author.Needs.{needs}
-use lib.ListN.{length, drop, length-set, length-append}
-use lib.Seq.{sets}
-use borrow.Author.Tests.{eq-eqb, ne-eqb, le-leb, lt-leb, not-true, not-false}
-use Rattle.real.specs.Form.{isLetter, isPlain, isName, isGate}
+use borrow.Author.Tests.{eq-eqb, ne-eqb, le-leb, lt-leb}
+use Rattle.real.specs.Form.{isPlain}
 use Rattle.real.proofs.spelling.is_plain.Statement.{statement}
 use Rattle.real.proofs.spelling.is_plain.Tie as tie
 

@@ -93,11 +93,10 @@ all-plain-requires c κs = search needs
 returns-2 : tie.Need-returns-2
 returns-2 c =
     let e = c .before .before in
-    let s = entry (e .before) in
-    (
+    let s = entry (e .before) in (
       refl,
       line-forbidden (names s) (line s) (s .args .from) (s .args .to) (s .pre .2) (known e)
-      (sym (c .before .all-plain .ensures) ∙ not-true _ (c .if2 .taken)),
+          (sym (c .before .all-plain .ensures) ∙ not-true _ (c .if2 .taken)),
     )
 
 slice-aggregate-alone : tie.Need-slice-aggregate-alone
@@ -145,11 +144,11 @@ token c =
 returns-4 : tie.Need-returns-4
 returns-4 c =
     let t = c .before .before in
-    let s = start (t .before .before) in
-    (
+    let s = start (t .before .before) in (
       refl,
       none (t .before)
-      (no-token (names s) (word s) (wordsOf (rest s)) (token-unread (word s) (wordsOf (rest s)) (sym (c .enum-told .given .1) ∙ t .token-of .ensures))),
+          (no-token (names s) (word s) (wordsOf (rest s))
+          (token-unread (word s) (wordsOf (rest s)) (sym (c .enum-told .given .1) ∙ t .token-of .ensures))),
     )
 
 gate-of-requires : tie.Need-gate-of-requires
@@ -169,11 +168,11 @@ returns-5 : tie.Need-returns-5
 returns-5 c =
     let g = c .before .before in
     let t = read (g .before) in
-    let s = start (t .before .before) in
-    (
+    let s = start (t .before .before) in (
       refl,
       none (t .before)
-      (no-gate (names s) (word s) (wordsOf (rest s)) (token (g .before) .0) (subst (GateRead (names s) (wordsOf (rest s))) (c .enum-told2 .given .1) (g .gate-of .ensures))),
+          (no-gate (names s) (word s) (wordsOf (rest s)) (token (g .before) .0)
+          (subst (GateRead (names s) (wordsOf (rest s))) (c .enum-told2 .given .1) (g .gate-of .ensures))),
     )
 
 hold-requires : tie.Need-hold-requires

@@ -1,7 +1,7 @@
 -- `real_import::lines::line_turn` meets its contract: blank lines and comments are skipped, and after .end there may be nothing else.
 -- Assumes nothing.
 use Prim.Native.Nat.{ℕ}
-use mathlib.Core.Path.{_≡_, refl, sym, ap, _∙_}
+use mathlib.Core.Path.{refl, sym, ap, _∙_}
 use mathlib.Core.List.{List}
 use native.Mathlib.Omega.{arith}
 use lib.Dec.{eqb}
@@ -10,9 +10,9 @@ use borrow.Author.Tests.{eq-eqb}
 use Rattle.text_words.specs.Words.{wordsOf}
 use Rattle.text_words.specs.Runs.{part}
 use Rattle.text_words.proofs.RunLaws.{words-none, words-some}
+use Rattle.text_words.proofs.PartLaws.{begins-part}
 use Rattle.real.specs.Form.{Word, stepOf}
 use Rattle.real.proofs.StepLaws.{step-blank, step-comment}
-use Rattle.real_head.proofs.LineLaws.{begins-part}
 use Rattle.real_import.specs.Lines.{stageOf, gatesSoFar, Counts}
 use Rattle.real_import.proofs.GateLaws.{line-after}
 use Rattle.real_import.proofs.LineLaws.{leads-on}

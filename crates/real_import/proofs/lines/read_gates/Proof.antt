@@ -1,6 +1,6 @@
 -- `real_import::lines::read_gates` meets its contract: each turn reads one line, and what the lines before add is held. Assumes nothing.
 use Prim.Native.Nat.{ℕ, _-_}
-use mathlib.Core.Path.{_≡_, refl, sym, ap, subst, _∙_}
+use mathlib.Core.Path.{_≡_, refl, subst, _∙_}
 use mathlib.Core.List.{List}
 use native.Mathlib.Omega.{arith}
 use lib.ListN.{length}
@@ -83,7 +83,8 @@ returns c =
     let s = entry l in
     let (same-line, stops) = turned n _ (c .before .number .given .1) in
     rw same-line
-    (reads-faulty (names s) (s .args .text .now) (s .args .first) (s .args .line) (l .loop .at) (l .loop .here) (l .loop .due) (l .loop .own) (l .loop .inv .1) _ _
+    (reads-faulty (names s) (s .args .text .now) (s .args .first) (s .args .line) (l .loop .at) (l .loop .here) (l .loop .due) (l .loop .own)
+    (l .loop .inv .1) _ _
     (n .before .before .before .next-line .ensures) _ stops)
 
 enum-known-then : tie.Need-enum-known-then Inv-loop μ-loop
@@ -103,11 +104,11 @@ loop-again : tie.Need-loop-again Inv-loop μ-loop
 loop-again c =
     let n = c .before .before .before .before .before in
     let l = looped n in
-    let s = entry l in
-    (
+    let s = entry l in (
       n .line-turn .kept .1 .1 .1 .1 .1 .1 .0 ∙ l .loop .inv .0,
-      reads-more (names s) (s .args .text .now) (s .args .first) (s .args .line) (l .loop .at) (l .loop .here) (l .loop .due) (l .loop .own) (l .loop .inv .1) _ _
-      (n .before .before .before .next-line .ensures) _ _ (turned n _ (c .before .then .given .1)),
+      reads-more (names s) (s .args .text .now) (s .args .first) (s .args .line) (l .loop .at) (l .loop .here) (l .loop .due) (l .loop .own)
+          (l .loop .inv .1) _ _
+          (n .before .before .before .next-line .ensures) _ _ (turned n _ (c .before .then .given .1)),
     )
 
 enum-known-due : tie.Need-enum-known-due Inv-loop μ-loop
@@ -124,7 +125,8 @@ returns-2 c =
     let l = c .before .before .before .before in
     let s = entry l in
     rw (s .pre .0 .counted)
-    (reads-ended (names s) (s .args .text .now) (s .args .first) (s .args .line) (l .loop .at) (l .loop .here) (l .loop .due) (l .loop .own) (l .loop .inv .1) (omega arith) _
+    (reads-ended (names s) (s .args .text .now) (s .args .first) (s .args .line) (l .loop .at) (l .loop .here) (l .loop .due) (l .loop .own)
+    (l .loop .inv .1) (omega arith) _
     (c .before .due .given .1))
 
 same-length-3 : tie.Need-same-length-3 Inv-loop μ-loop
@@ -134,7 +136,8 @@ returns-3 : tie.Need-returns-3 Inv-loop μ-loop
 returns-3 c =
     let l = c .before .before .before in
     let s = entry l in
-    reads-unended (names s) (s .args .text .now) (s .args .first) (s .args .line) (l .loop .at) (l .loop .here) (l .loop .due) (l .loop .own) (l .loop .inv .1) (omega arith) _
+    reads-unended (names s) (s .args .text .now) (s .args .first) (s .args .line) (l .loop .at) (l .loop .here) (l .loop .due) (l .loop .own)
+    (l .loop .inv .1) (omega arith) _
     (c .enum-told .given .1)
 
 pub read-gates-spec : {M : Type 1} → statement M

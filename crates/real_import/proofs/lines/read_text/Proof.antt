@@ -1,5 +1,5 @@
 -- `real_import::lines::read_text` meets its contract: the head is read, and what is left of the text is read from there. Assumes nothing.
-use mathlib.Core.Path.{_≡_, subst}
+use mathlib.Core.Path.{subst}
 use native.Mathlib.Omega.{arith}
 use borrow.Author.Needs.{needs}
 use Rattle.real_head.specs.Stages.{Begins, HeadRead}

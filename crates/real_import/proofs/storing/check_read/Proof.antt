@@ -78,7 +78,8 @@ returns-3 c words h =
     let e = k .before .before in
     let s = entry (e .before .before .before) in
     let a = s .args in
-    rule-7 (a .lines) (a .gates) (a .room) (a .own .now) words h (few (e .before .before)) (sym (e .before .bad-counts .ensures) ∙ e .if2 .left) (s .pre) _ _
+    rule-7 (a .lines) (a .gates) (a .room) (a .own .now) words h (few (e .before .before)) (sym (e .before .bad-counts .ensures) ∙ e .if2 .left)
+    (s .pre) _ _
     (ap found (sym (c .before .refusal .given .1)) ∙ told k)
 
 enum-told : tie.Need-enum-told
@@ -93,7 +94,8 @@ returns-4 c words h =
     let e = k .before .before in
     let s = entry (e .before .before .before) in
     let a = s .args in
-    rule-10 (a .lines) (a .gates) (a .room) (a .own .now) words h (few (e .before .before)) (sym (e .before .bad-counts .ensures) ∙ e .if2 .left) (s .pre) _
+    rule-10 (a .lines) (a .gates) (a .room) (a .own .now) words h (few (e .before .before)) (sym (e .before .bad-counts .ensures) ∙ e .if2 .left)
+    (s .pre) _
     (ap found (sym (c .before .enum-told .given .1)) ∙ told k)
     (c .unless .ensures)
 

@@ -36,7 +36,12 @@ mul-own-3 c = search needs
 slice-write-own-3 : tie.Need-slice-write-own-3
 slice-write-own-3 c =
     let a = c .before .args in
-    omega (arith, length-set (set (a .own .now) (3 * a .gates) (a .controls)) (3 * a .gates + 1) 0, length-set (a .own .now) (3 * a .gates) (a .controls))
+    omega (
+      arith,
+      length-set (set (a .own .now) (3 * a .gates) (a .controls)) (3 * a .gates + 1) 0,
+      length-set (a .own .now) (3 * a .gates)
+          (a .controls),
+    )
 
 same-length : tie.Need-same-length
 same-length c = search needs

@@ -1,7 +1,7 @@
 -- `text_words::runs::count_words` meets its contract: each turn passes one word. Assumes nothing.
 use Prim.Native.Nat.{_+_, _-_, _≤_}
 use native.Mathlib.Omega.{arith}
-use mathlib.Core.Path.{_≡_, refl, sym, ap, _∙_}
+use mathlib.Core.Path.{_≡_, ap}
 use borrow.Author.Needs.{needs}
 use lib.ListN.{length, drop}
 use Rattle.text_words.specs.Words.{wordsOf}
@@ -22,7 +22,12 @@ next-word-requires : tie.Need-next-word-requires Inv-loop μ-loop
 next-word-requires c κs = search needs
 
 returns : tie.Need-returns Inv-loop μ-loop
-returns c = let n = c .before .next-word in let l = c .before .before in let a = l .before .before .args in let e = ap length (words-none (a .line .now) (l .loop .at) _ _ (n .ensures) (c .if1 .taken)) in omega arith
+returns c =
+    let n = c .before .next-word in
+    let l = c .before .before in
+    let a = l .before .before .args in
+    let e = ap length (words-none (a .line .now) (l .loop .at) _ _ (n .ensures) (c .if1 .taken)) in
+    omega arith
 
 add-count : tie.Need-add-count Inv-loop μ-loop
 add-count c = let n = c .before .next-word .ensures in omega arith
@@ -31,7 +36,12 @@ loop-less : tie.Need-loop-less Inv-loop μ-loop
 loop-less c = let n = c .before .next-word .ensures in omega arith
 
 loop-again : tie.Need-loop-again Inv-loop μ-loop
-loop-again c = let n = c .before .next-word .ensures in let l = c .before .before in let a = l .before .before .args in let e = ap length (words-some (a .line .now) (l .loop .at) _ _ n (c .if1 .left)) in (omega arith, (omega arith, omega arith))
+loop-again c =
+    let n = c .before .next-word .ensures in
+    let l = c .before .before in
+    let a = l .before .before .args in
+    let e = ap length (words-some (a .line .now) (l .loop .at) _ _ n (c .if1 .left)) in
+    (omega arith, (omega arith, omega arith))
 
 pub count-words-spec : {M : Type 1} → statement M
 count-words-spec =

@@ -2,13 +2,10 @@
 use Prim.Native.Nat.{_-_}
 use native.Mathlib.Omega.{arith}
 use lib.ListN.{length, getD}
-use lib.Dec.{eqb}
-use mathlib.Core.Path.{_≡_, refl, sym, ap, _∙_}
+use mathlib.Core.Path.{ap}
 use mathlib.Core.Bool.{not}
-use borrow.Author.Needs.{needs}
-use borrow.Author.Tests.{eq-eqb, ne-eqb, not-true, not-false}
-use Rattle.text_words.specs.Words.{isBlank}
-use Rattle.text_words.specs.Runs.{inLine, isInk}
+use borrow.Author.Tests.{eq-eqb, ne-eqb}
+use Rattle.text_words.specs.Runs.{inLine}
 use Rattle.text_words.proofs.RunLaws.{Running, run-start, run-more, run-stops, run-ends}
 use Rattle.text_words.proofs.runs.line_feed.Statement.{statement}
 use Rattle.text_words.proofs.runs.line_feed.Tie as tie
@@ -26,7 +23,10 @@ shared-slice-read-if1 : tie.Need-shared-slice-read-if1 Inv-loop μ-loop
 shared-slice-read-if1 c = omega arith
 
 returns : tie.Need-returns Inv-loop μ-loop
-returns c = let l = c .before .before .before in let a = l .before .args in run-stops inLine (a .text .now) (a .at) (l .loop .i) (l .loop .inv) (ap not (eq-eqb (getD (a .text .now) (l .loop .i) 0) 10 (c .if1 .taken)))
+returns c =
+    let l = c .before .before .before in
+    let a = l .before .args in
+    run-stops inLine (a .text .now) (a .at) (l .loop .i) (l .loop .inv) (ap not (eq-eqb (getD (a .text .now) (l .loop .i) 0) 10 (c .if1 .taken)))
 
 add-i : tie.Need-add-i Inv-loop μ-loop
 add-i c = omega arith
@@ -35,7 +35,11 @@ loop-less : tie.Need-loop-less Inv-loop μ-loop
 loop-less c = omega arith
 
 loop-again : tie.Need-loop-again Inv-loop μ-loop
-loop-again c = let l = c .before .before .before in let a = l .before .args in run-more inLine (a .text .now) (a .at) (l .loop .i) (l .loop .inv) (omega arith) (ap not (ne-eqb (getD (a .text .now) (l .loop .i) 0) 10 (c .if1 .left)))
+loop-again c =
+    let l = c .before .before .before in
+    let a = l .before .args in
+    run-more inLine (a .text .now) (a .at) (l .loop .i) (l .loop .inv) (omega arith)
+    (ap not (ne-eqb (getD (a .text .now) (l .loop .i) 0) 10 (c .if1 .left)))
 
 returns-2 : tie.Need-returns-2 Inv-loop μ-loop
 returns-2 c = let l = c .before in let a = l .before .args in run-ends inLine (a .text .now) (a .at) (l .loop .i) (l .loop .inv) (omega arith)

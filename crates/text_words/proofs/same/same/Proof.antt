@@ -27,7 +27,10 @@ shared-slice-read-if2-2 : tie.Need-shared-slice-read-if2-2 Inv-loop μ-loop
 shared-slice-read-if2-2 c = omega arith
 
 returns-2 : tie.Need-returns-2 Inv-loop μ-loop
-returns-2 c = let l = c .before .before .before .before in let a = l .before .before .args in sym (l .loop .inv .1 .1 ∙ same-other (a .a .now) (a .b .now) (l .loop .i) (omega arith) (omega arith) (c .if2 .taken))
+returns-2 c =
+    let l = c .before .before .before .before in
+    let a = l .before .before .args in
+    sym (l .loop .inv .1 .1 ∙ same-other (a .a .now) (a .b .now) (l .loop .i) (omega arith) (omega arith) (c .if2 .taken))
 
 add-i : tie.Need-add-i Inv-loop μ-loop
 add-i c = omega arith
@@ -36,10 +39,22 @@ loop-less : tie.Need-loop-less Inv-loop μ-loop
 loop-less c = omega arith
 
 loop-again : tie.Need-loop-again Inv-loop μ-loop
-loop-again c = let l = c .before .before .before .before in let a = l .before .before .args in (omega arith, (l .loop .inv .1 .0, l .loop .inv .1 .1 ∙ same-more (a .a .now) (a .b .now) (l .loop .i) (omega arith) (omega arith) (c .if2 .left)))
+loop-again c =
+    let l = c .before .before .before .before in
+    let a = l .before .before .args in (
+      omega arith,
+      (
+        l .loop .inv .1 .0,
+        l .loop .inv .1 .1 ∙ same-more (a .a .now) (a .b .now) (l .loop .i) (omega arith) (omega arith)
+            (c .if2 .left),
+      ),
+    )
 
 returns-3 : tie.Need-returns-3 Inv-loop μ-loop
-returns-3 c = let l = c .before in let a = l .before .before .args in sym (l .loop .inv .1 .1 ∙ same-end (a .a .now) (a .b .now) (l .loop .i) (omega arith) (omega arith))
+returns-3 c =
+    let l = c .before in
+    let a = l .before .before .args in
+    sym (l .loop .inv .1 .1 ∙ same-end (a .a .now) (a .b .now) (l .loop .i) (omega arith) (omega arith))
 
 pub same-spec : {M : Type 1} → statement M
 same-spec =
