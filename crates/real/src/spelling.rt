@@ -12,28 +12,28 @@ use text_words::same;
 pub fn is_letter(b: u8) -> bool
     ensures { λ r. ⌜ r ≡ isLetter b ⌝ }
 {
-    if b < 65 {
+    if b < b'A' {
         return false;
     }
-    if b <= 90 {
+    if b <= b'Z' {
         return true;
     }
-    if b < 97 {
+    if b < b'a' {
         return false;
     }
-    b <= 122
+    b <= b'z'
 }
 
 fn is_plain(b: u8) -> bool
     ensures { λ r. ⌜ r ≡ isPlain b ⌝ }
 {
-    if b == 9 {
+    if b == b'\t' {
         return true;
     }
-    if b < 32 {
+    if b < b' ' {
         return false;
     }
-    b <= 126
+    b <= b'~'
 }
 
 fn is_name_byte(b: u8) -> bool
@@ -45,7 +45,7 @@ fn is_name_byte(b: u8) -> bool
     if same::is_digit(b) {
         return true;
     }
-    b == 95
+    b == b'_'
 }
 
 // Whether a line has no byte that is forbidden.
@@ -104,7 +104,7 @@ pub fn all_hyphens(word: &[u8], number: usize) -> bool
     }
     let mut i = 0;
     while i < word.len() {
-        if word[i] != 45 {
+        if word[i] != b'-' {
             return false;
         }
         i += 1;

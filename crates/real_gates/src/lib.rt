@@ -40,7 +40,7 @@ pub fn token_of(token: &[u8], rest: &[u8]) -> Token
     if count == 0 {
         return Token::Unread;
     }
-    if token[0] != 116 {
+    if token[0] != b't' {
         return Token::Unread;
     }
     if same::is_decimal(&token[1..], count) {

@@ -239,7 +239,7 @@ fn line_turn(text: &[u8], due: Due, at: usize, to: usize) -> Turn
     if start == end {
         return Turn::Goes(due);
     }
-    if line[start] == 35 {
+    if line[start] == b'#' {
         return Turn::Goes(due);
     }
     if !spelling::all_plain(line) {

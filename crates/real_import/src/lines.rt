@@ -41,7 +41,7 @@ pub enum Form {
 fn is_other(first: u8) -> bool
     ensures { λ r. ⌜ r ≡ (isLetter first && not (eqb first 116)) ⌝ }
 {
-    if first == 116 {
+    if first == b't' {
         return false;
     }
     spelling::is_letter(first)
@@ -103,7 +103,7 @@ fn line_turn(
     if from == to {
         return Turn::Goes(due);
     }
-    if here[from] == 35 {
+    if here[from] == b'#' {
         return Turn::Goes(due);
     }
     let Due::Gate(gates) = due else {

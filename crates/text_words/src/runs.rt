@@ -20,7 +20,7 @@ pub struct Span {
 pub fn is_blank(b: u8) -> bool
     ensures { λ r. ⌜ r ≡ isBlank b ⌝ }
 {
-    b == 32 || b == 9
+    b == b' ' || b == b'\t'
 }
 
 // The first LF from a place on, or the end.
@@ -30,7 +30,7 @@ fn line_feed(text: &[u8], at: usize) -> usize
 {
     let mut i = at;
     while i < text.len() {
-        if text[i] == 10 {
+        if text[i] == b'\n' {
             return i;
         }
         i += 1;
@@ -83,7 +83,7 @@ pub fn next_line(text: &[u8], at: usize) -> Line
             next: end + 1,
         };
     }
-    if text[end - 1] == 13 {
+    if text[end - 1] == b'\r' {
         return Line {
             to: end - 1,
             next: end + 1,

@@ -68,7 +68,7 @@ pub fn distinct(line: &[u8], words: usize) -> bool
 pub fn is_digit(b: u8) -> bool
     ensures { λ r. ⌜ r ≡ isDigit b ⌝ }
 {
-    48 <= b && b <= 57
+    b'0' <= b && b <= b'9'
 }
 
 // Whether a text is a number in decimal with no zero in front.
@@ -83,7 +83,7 @@ pub fn is_number(t: &[u8]) -> bool
         }
         i += 1;
     }
-    if t[0] != 48 {
+    if t[0] != b'0' {
         return true;
     }
     t.len() == 1
@@ -99,7 +99,7 @@ pub fn is_decimal(t: &[u8], number: usize) -> bool
         if end == 0 {
             return false;
         }
-        if t[end - 1] != 48 + (x % 10) as u8 {
+        if t[end - 1] != b'0' + (x % 10) as u8 {
             return false;
         }
         end -= 1;
@@ -108,5 +108,5 @@ pub fn is_decimal(t: &[u8], number: usize) -> bool
     if end != 1 {
         return false;
     }
-    t[end - 1] == 48 + x as u8
+    t[end - 1] == b'0' + x as u8
 }
