@@ -46,7 +46,29 @@ use Rattle.testsets.specs.Rules.{backwardRows, compactRows}
 use Rattle.bytes.specs.Bytes.{bytesOf, numberAt, wordsAt}
 use Rattle.job.specs.Image.{header, rowBytes, gateCount, image, linesIn, classesIn, gatesIn, vectorsIn, gateWords, vectorWords}
 use Rattle.job.specs.Rules.{badClasses, badSizes, headerRows, contentRows, readRows, writeRows}
-use Rattle.text.specs.Decimal.{digit, decimalIn, decimal}
+use Rattle.text.specs.Texts.{ascii, every, begins, same, among, distinct, place}
+use Rattle.text.specs.Decimal.{digit, decimalIn, decimal, isDigit, isNumber}
+use Rattle.text_words.specs.Words.{inFront, linesOf, isBlank, wordEnds, wordsOf as wordsOfLine}
+use Rattle.real.specs.Form.{
+  isLetter,
+  isName,
+  optionalParts,
+  isConstants,
+  controlsOf,
+  targetOf,
+  isGate as isGateLine,
+  maskOf,
+  gateOf,
+  next,
+  isOther as isOtherToken,
+  isPlain,
+  stepWith,
+  stepOf,
+}
+use Rattle.real.specs.Reading.{readFrom, reading}
+use Rattle.real.specs.Export.{nameOf, gateLine, headLines, joined, lineText, realText}
+use Rattle.real_import.specs.Rules.{importRows}
+use Rattle.real_export.specs.Rules.{exportRows}
 use Rattle.report_text.specs.Lines.{spaced, line}
 use Rattle.report_text.specs.Report.{letterOf, shown, firstText, classText, jobText, refusedText, reportText}
 use Rattle.job.specs.Wanted.{isWanted, wanted}
@@ -64,16 +86,18 @@ use Rattle.borders.specs.Images.{job, bareJob}
 use Rattle.borders.specs.Reading.{readTable}
 use Rattle.borders.specs.Writing.{writeTable}
 use Rattle.borders.specs.Reports.{reportTable}
+use Rattle.borders.specs.Importing.{formTable, gateTable}
+use Rattle.borders.specs.Exporting.{exportTable}
 use Rattle.borders.specs.Orders.{orderTable}
 use Rattle.borders.specs.JobOrders.{jobOrderTable}
-use Rattle.borders.specs.Long.{longTable, longOrderTable}
+use Rattle.borders.specs.Long.{longTable, longOrderTable, longTextTable}
 use Rattle.borders.specs.Claim.{Borders}
 use Rattle.borders.proofs.Computing.{by-computing}
-use Rattle.borders.proofs.Longest.{longest-read, longest-reported, largest-word}
+use Rattle.borders.proofs.Longest.{longest-read, longest-reported, largest-word, longest-text}
 
 pub every-border : Borders
 unfolding answerTable circuitTable faultTable meaningTable multipleTable judgeTable dropTable setTable job bareJob readTable writeTable
-    reportTable orderTable jobOrderTable longTable longOrderTable sampleWords sampleJob
+    reportTable formTable gateTable exportTable orderTable jobOrderTable longTable longOrderTable longTextTable sampleWords sampleJob
     upFrom keep each some sumFrom bit flip force allOn allOnes linesOn inverse wordOf lacking loneZero firstBadFrom inWord
     gatesOf gateAt noGate isControl lessControl moreControl isOther fires step run forward backward badGate firstBadGate firstBadVector
     circuitSetRows circuitRows setRows vectorRows levelRows runRows
@@ -86,6 +110,9 @@ unfolding answerTable circuitTable faultTable meaningTable multipleTable judgeTa
     log2In log2 score bestOf best picks siteCount bound compactSet backwardInput backwardSet backwardRows compactRows
     bytesOf numberAt wordsAt header rowBytes gateCount image linesIn classesIn gatesIn vectorsIn gateWords vectorWords
     badLines badClasses badCounts badSizes headerRows contentRows readRows writeRows
+    ascii every begins same among distinct place isDigit isNumber inFront linesOf isBlank wordEnds wordsOfLine
+    isLetter isName optionalParts isConstants controlsOf targetOf isGateLine maskOf gateOf next isOtherToken isPlain stepWith stepOf
+    readFrom reading nameOf gateLine headLines joined lineText realText importRows exportRows
     digit decimalIn decimal spaced line letterOf shown firstText classText isWanted wanted jobText refusedText reportText reportRows
 every-border = record {
   answers = by-computing answerTable refl;
@@ -99,11 +126,16 @@ every-border = record {
   reading = by-computing readTable refl;
   writing = by-computing writeTable refl;
   reports = by-computing reportTable refl;
+  forms = by-computing formTable refl;
+  gate-lines = by-computing gateTable refl;
+  exporting = by-computing exportTable refl;
   orders = by-computing orderTable refl;
   job-orders = by-computing jobOrderTable refl;
   long-lists = by-computing longTable refl;
   long-orders = by-computing longOrderTable refl;
+  long-texts = by-computing longTextTable refl;
   longest-read = longest-read;
   longest-reported = longest-reported;
+  longest-text = longest-text;
   largest-word = largest-word;
 }

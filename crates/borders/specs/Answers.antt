@@ -28,6 +28,10 @@ use Rattle.job.specs.declared.Read.the-variants as read
 use Rattle.job.specs.declared.Written.the-variants as written
 use Rattle.report_text.specs.Answers.{toldReported}
 use Rattle.report_text.specs.declared.Reported.the-variants as reported
+use Rattle.real_import.specs.Answers.{toldImported}
+use Rattle.real_import.specs.declared.Imported.the-variants as imported
+use Rattle.real_export.specs.Answers.{toldExported}
+use Rattle.real_export.specs.declared.Exported.the-variants as exported
 use Rattle.answers.specs.Fields.{fields}
 use Rattle.borders.specs.Rows.{Row, fault}
 use Rattle.borders.specs.Rows.Row.{_tells_, _gives_}
@@ -73,9 +77,16 @@ answerTable =
     toldWritten (written.Refused seven) tells refused 7 2 ∷
     toldReported (reported.Bytes 48) tells answered (48 ∷ []) ∷
     toldReported (reported.Refused seven) tells refused 7 2 ∷
+    -- the number of lines and of gates read, of bytes written
+    toldImported (imported.Circuit 3 2) tells answered (3 ∷ 2 ∷ []) ∷
+    toldImported (imported.Refused seven) tells refused 7 2 ∷
+    toldExported (exported.Bytes 77) tells answered (77 ∷ []) ∷
+    toldExported (exported.Refused seven) tells refused 7 2 ∷
     -- a C answer: number and place, 0 and 0 where the call answers, then the values, or as many zeros
     fields 1 (answered (5 ∷ [])) gives (0 ∷ 0 ∷ 5 ∷ []) ∷
     fields 1 (refused 7 2) gives (7 ∷ 2 ∷ 0 ∷ []) ∷
+    fields 2 (answered (3 ∷ 2 ∷ [])) gives (0 ∷ 0 ∷ 3 ∷ 2 ∷ []) ∷
+    fields 2 (refused 14 5) gives (14 ∷ 5 ∷ 0 ∷ 0 ∷ []) ∷
     fields 4 (answered (3 ∷ 15 ∷ 2 ∷ 4 ∷ [])) gives (0 ∷ 0 ∷ 3 ∷ 15 ∷ 2 ∷ 4 ∷ []) ∷
     fields 4 (refused 7 2) gives (7 ∷ 2 ∷ 0 ∷ 0 ∷ 0 ∷ 0 ∷ []) ∷
     -- line 0 is bit 0, line 31 bit 31

@@ -11,6 +11,8 @@ pub mod Images
 pub mod Reading
 pub mod Writing
 pub mod Reports
+pub mod Importing
+pub mod Exporting
 pub mod Orders
 pub mod JobOrders
 pub mod Long

@@ -1,6 +1,7 @@
 -- Borders that take long lists: rule 5, 1,024 gates and 2,048 vectors, rule 13, 256 entries, the header of the longest job,
--- and rule 5 before each later rule.
+-- and rule 5 before each later rule; the same of texts.
 use Prim.Native.Nat.{ℕ}
+use Prim.Native.String.{String}
 use mathlib.Core.List.{List, [], _∷_, _++_}
 use lib.ListN.{take, replicate}
 use Rattle.basics.specs.Lists.{upFrom, each}
@@ -8,6 +9,9 @@ use Rattle.refusals.specs.Tables.{Told, firstOf}
 use Rattle.refusals.specs.Tables.Told.{answered, refused}
 use Rattle.judge.specs.Coverages.{emptyCoverage}
 use Rattle.testsets.specs.Rules.{backwardRows, compactRows}
+use Rattle.text.specs.Texts.{ascii}
+use Rattle.real.specs.Reading.Reading.{circuit}
+use Rattle.real_import.specs.Rules.{readingRows}
 use Rattle.job.specs.Rules.{headerRows}
 use Rattle.borders.specs.Rows.{Row, fault}
 use Rattle.borders.specs.Rows.Row.{_tells_, _gives_}
@@ -18,8 +22,11 @@ use Rattle.fault_test.specs.Promises.{testForTells}
 use Rattle.judge.specs.Promises.{judgeTells, withVectorTells, countTells}
 use Rattle.dropping.specs.Promises.{dropTells, dropRecordsTells}
 use Rattle.testsets.specs.Promises.{backwardSetTells, compactSetTells}
+use Rattle.real_import.specs.Promises.{importTells}
+use Rattle.real_export.specs.Promises.{exportTells}
 use Rattle.job.specs.Promises.{writeTells, writeLeaves}
 use Rattle.borders.specs.Images.{headerOf}
+use Rattle.borders.specs.Importing.{block}
 use Rattle.borders.specs.Orders.{many, bad, manyBad, known, unknown}
 
 -- the most gates, each with no control and target 0
@@ -142,3 +149,27 @@ longOrderTable =
     compactSetTells 3 manyBad (replicate 20 9) tells refused 5 0 ∷
     compactSetTells 13 many (replicate 20 9) tells refused 5 0 ∷
     compactSetTells 3 many [] tells refused 5 0 ∷ []
+
+-- a text of so many gates without controls, its lines 5 and on, and the lines after them
+abbrev pub gatesText : ℕ → String → List ℕ
+gatesText count lines = block "" ++ (each (λ i. ascii "t1 a\n") (upFrom 0 count) ++ ascii lines)
+
+-- the most gates, on all of the most lines
+abbrev pub widest : List ℕ
+widest = each (λ i. 2147483647 ∷ 0 ∷ 31 ∷ []) (upFrom 0 1024)
+
+unfoldable pub longTextTable : List Row
+longTextTable =
+    -- rule 5: 1,024 gates are read, and 1,025 are not, also where 7 and 10 are broken
+    importTells (gatesText 1024 ".end") (replicate 3072 9) tells answered (2 ∷ 1024 ∷ []) ∷
+    importTells (gatesText 1024 "t2 a a\n.end") [] tells refused 5 0 ∷
+    -- 15, 14 and 3 come before it: a text is read to its end
+    importTells (gatesText 1025 "f1 a\n.end") [] tells refused 15 1030 ∷
+    importTells (gatesText 1025 "") [] tells refused 14 1030 ∷
+    firstOf (readingRows (circuit 33 many) 3075) (answered []) tells refused 3 0 ∷
+    -- a circuit that is written: 3 before 5, and 5 before 7 and 10
+    exportTells 1 most (replicate 6194 9) tells answered (6194 ∷ []) ∷
+    exportTells 1 many (replicate 6200 9) tells refused 5 0 ∷
+    exportTells 33 many (replicate 6200 9) tells refused 3 0 ∷
+    exportTells 3 manyBad (replicate 6300 9) tells refused 5 0 ∷
+    exportTells 3 many [] tells refused 5 0 ∷ []
