@@ -1,7 +1,6 @@
--- The .real form as a grammar, in the words of the request: which lines a text has, and which circuit of n lines they say.
--- Of what the contracts cite it names the lines of a text, the words of a line and quoted texts (`linesOf`, `wordsOf`, `ascii`), numbers in decimal
--- (`decimal`, which `decimal-is` of `Reporting` spells), the struct `Gate`, and `All`. `form-read` of `RealReading` holds the reading of the contracts
--- against it.
+-- The .real form as a grammar: which lines a text has, and which circuit of n lines they say. Of what the contracts cite it names the lines of a
+-- text, the words of a line and quoted texts (`linesOf`, `wordsOf`, `ascii`), numbers in decimal (`decimal`, which `decimal-is` of `Reporting`
+-- spells), the struct `Gate`, and `All`. `form-read` of `RealReading` holds the reading of the contracts against it.
 use Prim.Native.Nat.{ℕ, suc, _≤_, _<_}
 use mathlib.Core.Path.{_≡_}
 use mathlib.Core.Logic.{_↔_, _≢_, _⊎_}
@@ -89,8 +88,8 @@ SayGates names (line ∷ lines) gs = (g : Gate) × (more : List Gate) × (gs ≡
 
 -- ---- a text
 
--- some lines, by their words, say a circuit of n lines and these words of gates: what follows .version may be any words, as many names are declared as
--- .numvars says, no kind of optional line comes twice, .begin and .end stand alone, and nothing follows
+-- some lines, by their words, say a circuit of n lines and these words of gates: what follows .version may be any words, as many names are
+-- declared as .numvars says, no kind of optional line comes twice, .begin and .end stand alone, and nothing follows
 pub record SayCircuit (lines : List (List Word)) (n : ℕ) (words : List ℕ) : Type 0 where
   pub version : List Word
   pub names : List Word
