@@ -1,21 +1,22 @@
 -- Laws of the parts of a text: which names stand in them, how long they are, and that they are what is put.
-use Prim.Native.Nat.{ℕ, suc, _+_, _/_, _<_, _≤_}
+use Prim.Native.Nat.{ℕ, zero, suc, _+_, _*_, _/_, _<_, _≤_, min}
 use mathlib.Core.Path.{_≡_, sym, ap, _∙_}
 use mathlib.Core.List.{List, [], _∷_, _++_}
 use native.Mathlib.Omega.{arith}
 use native.Mathlib.Numerals.{add-one}
 use lib.ListN.{length, drop, set, length-append}
-use lib.Dec.{eqb}
-use borrow.Author.Tests.{eq-eqb, ne-eqb}
+use lib.Dec.{eqb, ltb}
+use borrow.Author.Tests.{eq-eqb, ne-eqb, eqb-false, ltb-true, ltb-false}
 use Rattle.basics.specs.Lists.{upFrom, each}
-use Rattle.basics.proofs.Tests.{by-test, choice-true, choice-false}
-use Rattle.basics.proofs.Lists.{keep-le, length-upFrom, all-upFrom}
+use Rattle.basics.proofs.Tests.{by-test, by-equal, choice-true, choice-false}
+use Rattle.basics.proofs.Lists.{keep-le, length-upFrom}
 use Rattle.words.specs.Word.{bit, allOnes, linesOn}
 use Rattle.words.proofs.SplitLaws.{length-wide}
 use Rattle.text.specs.Texts.{ascii}
 use Rattle.text.specs.Decimal.{decimal}
 use Rattle.text.proofs.TextLaws.{decimal-small, room-more, digits-most}
 use Rattle.circuit.specs.Limits.{mostLines}
+use Rattle.circuit.specs.Controls.{isControl}
 use Rattle.circuit.specs.Gates.{gatesOf, noGate, gateAt}
 use Rattle.circuit.specs.Sound.{GateOk, Sound}
 use Rattle.circuit.specs.declared.Gate.{Gate}
@@ -23,7 +24,7 @@ use Rattle.circuit.proofs.GateLaws.{gate-entry}
 use Rattle.circuit.proofs.RuleLaws.{gate-ok}
 use Rattle.real.specs.Export.{nameOf}
 use Rattle.real_export.specs.Parts.{spacedName, nameIf, namesOn, gateText, headText}
-use Rattle.real_export.proofs.EachLaws.{each-few, each-more}
+use Rattle.real_export.proofs.EachLaws.{each-more}
 use Rattle.real_export.proofs.PutLaws.{Puts, put-byte, put-then}
 
 -- ---- numbers below 100
@@ -57,19 +58,55 @@ module _ (w j : ℕ) where
   unfolding nameIf
   name-off d = sym (choice-false (ne-eqb (bit w j) 1 d) _ _)
 
-  name-few : j < mostLines → length (nameIf w j) ≤ 4
+  name-most : length (nameIf w j) ≤ length (spacedName j)
   unfolding nameIf
-  name-few h = by-test (eqb (bit w j) 1)
-      (λ e. rw e (omega (arith, name-length j, digits-few j (omega arith))))
-      (λ e. rw e (omega arith))
+  name-most = by-test (eqb (bit w j) 1) (λ e. rw e (omega arith)) (λ e. rw e (omega arith))
 
-pub names-few : (n w : ℕ) → n ≤ mostLines → length (namesOn n w) ≤ 128
-names-few n w h = omega (
+-- the names of k lines from line a on: ten lines have one digit
+all-names : (a k : ℕ) → a + k ≤ mostLines → length (each spacedName (upFrom a k)) + min (a + k) 10 ≤ 4 * k + min a 10
+unfolding each upFrom
+all-names a zero h = omega arith
+all-names a (suc k) h =
+    let rest = all-names (suc a) k (omega arith) in
+    let split = length-append (spacedName a) (each spacedName (upFrom (suc a) k)) in
+    by-test (ltb a 10)
+    (λ e. let t = ltb-true a 10 e in omega (arith, split, rest, name-length a, digits-one a t))
+    (λ e. let t = ltb-false a 10 e in omega (arith, split, rest, name-length a, digits-few a (omega arith)))
+
+-- some of the names, also with that of a line that is not among them
+some-names : (w a k : ℕ) → length (each (nameIf w) (upFrom a k)) ≤ length (each spacedName (upFrom a k))
+unfolding each upFrom
+some-names w a zero = omega arith
+some-names w a (suc k) = omega (
   arith,
-  length-upFrom 0 n,
-  each-few (nameIf w) 4 (upFrom 0 n)
-      (all-upFrom (λ j. length (nameIf w j) ≤ 4) 0 n (λ j l m. name-few w j (omega arith))),
+  length-append (nameIf w a) (each (nameIf w) (upFrom (suc a) k)),
+  length-append (spacedName a) (each spacedName (upFrom (suc a) k)),
+  name-most w a,
+  some-names w (suc a) k,
 )
+
+one-more-name : (w t a k : ℕ) → (bit w t ≡ 1 → ⊥) → a ≤ t → t < a + k
+    → length (each (nameIf w) (upFrom a k)) + length (spacedName t) ≤ length (each spacedName (upFrom a k))
+unfolding each upFrom
+one-more-name w t a zero off h l = absurd (omega arith)
+one-more-name w t a (suc k) off h l =
+    let on = length-append (nameIf w a) (each (nameIf w) (upFrom (suc a) k)) in
+    let all = length-append (spacedName a) (each spacedName (upFrom (suc a) k)) in
+    by-equal a t
+    (λ e. omega (
+      arith,
+      on,
+      all,
+      ap length (name-off w t off),
+      ap (λ j. length (nameIf w j)) e,
+      ap (λ j. length (spacedName j)) e,
+      some-names w
+          (suc a) k,
+    ))
+    (λ e. omega (arith, on, all, name-most w a, one-more-name w t (suc a) k off (omega arith) (omega arith)))
+
+pub names-few : (n w : ℕ) → n ≤ mostLines → length (namesOn n w) ≤ 118
+names-few n w h = omega (arith, some-names w 0 n, all-names 0 n (omega arith))
 
 -- ---- the line of a gate
 
@@ -103,13 +140,18 @@ module _ (n : ℕ) (g : Gate) (fits : n ≤ mostLines) (ok : GateOk n g) where
         name-length (g .target),
       )
 
-  pub gate-few : length (gateText n g) ≤ 136
-  gate-few =
-      let d = digits-few (suc (length (linesOn n (g .controls)))) lines-below in
-      let t = digits-few (g .target) target-below in
-      let m = names-few n (g .controls) fits in
-      let l = gate-length in
-      omega arith
+  -- t and a number, at most 32 names, and LF
+  pub gate-few : length (gateText n g) ≤ 122
+  unfolding isControl
+  gate-few = omega (
+    arith,
+    gate-length,
+    digits-few (suc (length (linesOn n (g .controls)))) lines-below,
+    name-length (g .target),
+    one-more-name (g .controls) (g .target) 0 n (eqb-false (bit (g .controls) (g .target)) 1 (ok .apart)) (omega arith)
+        (omega (arith, ok .target-in)),
+    all-names 0 n (omega arith),
+  )
 
   pub put-gate : (out : List ℕ) (at number names last : ℕ) (o1 o2 o3 : List ℕ)
       → Puts (set out at 116) (at + 1) (decimal (suc (length (linesOn n (g .controls))))) number o1
@@ -148,7 +190,7 @@ module _ (n : ℕ) where
     length-append (namesOn n (allOnes n)) (ascii "\n.begin\n"),
   )
 
-  pub head-few : n ≤ mostLines → length (headText n) ≤ 171
+  pub head-few : n ≤ mostLines → length (headText n) ≤ 161
   head-few h =
       let d = digits-few n (omega arith) in
       let m = names-few n (allOnes n) h in

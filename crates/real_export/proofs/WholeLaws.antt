@@ -102,16 +102,16 @@ module _ (n : ℕ) (words : List ℕ) where
     length-append (each (gateText n) (gatesOf words)) (ascii ".end\n"),
   )
 
-  -- no text has 2 ^ 32 bytes
+  -- the longest text
   module _ (ok : Sound n words) where
-    pub gates-few : length (each (gateText n) (gatesOf words)) ≤ 139264
+    pub gates-few : length (each (gateText n) (gatesOf words)) ≤ 124928
     gates-few = omega (
       arith,
       ok .gates-fit,
-      each-few (gateText n) 136 (gatesOf words) (all-map (λ g. gate-few n g (ok .lines-fit)) (gatesOf words) (ok .gates-ok)),
+      each-few (gateText n) 122 (gatesOf words) (all-map (λ g. gate-few n g (ok .lines-fit)) (gatesOf words) (ok .gates-ok)),
     )
 
-    pub text-few : length (realText n words) ≤ 139440
+    pub text-few : length (realText n words) ≤ 125094
     text-few = omega (arith, text-length, gates-few, head-few n (ok .lines-fit))
 
   pub put-whole : (out : List ℕ) (a b c : ℕ) (o1 o2 o3 : List ℕ) → length (realText n words) ≤ length out

@@ -35,7 +35,7 @@ long c =
       gate-length (start .args .lines) (start .args .gate) (start .pre .0) (start .pre .1),
     )
 
-few : (c : tie.Start) → length (gateText (c .args .lines) (c .args .gate)) ≤ 136
+few : (c : tie.Start) → length (gateText (c .args .lines) (c .args .gate)) ≤ 122
 few c = gate-few (c .args .lines) (c .args .gate) (c .pre .0) (c .pre .1)
 
 ones-requires : tie.Need-ones-requires
