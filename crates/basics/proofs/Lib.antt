@@ -2,6 +2,7 @@ pub mod Tests
 pub mod Bools
 pub mod All
 pub mod Lists
+pub mod Rising
 pub mod Kept
 pub mod KeptCounts
 pub mod ListMore

@@ -51,10 +51,6 @@ pub and-right : (a : Bool) {b : Bool} → b ≡ false → a && b ≡ false
 and-right true e = e
 and-right false e = refl
 
-pub and-one : (a : Bool) → a && true ≡ a
-and-one true = refl
-and-one false = refl
-
 pub or-neither : (a b : Bool) → a || b ≡ false → (a ≡ false) × (b ≡ false)
 or-neither true b e = absurd (false≢true (sym e))
 or-neither false b e = (refl, e)

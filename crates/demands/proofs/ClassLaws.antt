@@ -1,17 +1,17 @@
 -- The lists of faults that the contracts cite are those of `Machine` and `FaultLists`: the faults of a class, those that are caught, and the
 -- verdict on them.
-use Prim.Native.Nat.{ℕ, zero, suc, _<_}
+use Prim.Native.Nat.{ℕ, suc, _<_}
 use mathlib.Core.Path.{_≡_, refl, sym, _∙_, subst}
-use mathlib.Core.Bool.{Bool, true, false}
+use mathlib.Core.Bool.{Bool}
 use mathlib.Core.List.{List, [], _∷_, _++_, List·Memᴰ}
 use native.Mathlib.Nat.{le-refl}
 use native.Mathlib.Omega.{arith}
 use lib.ListN.{length}
-use Rattle.basics.specs.Choice.{choice}
 use Rattle.basics.specs.Lists.{upFrom, keep, each, All}
+use Rattle.basics.proofs.Rising.{Rising, rising-up, rising-keep}
 use Rattle.basics.proofs.Tests.{by-equal}
 use Rattle.basics.proofs.All.{all-map, all-of, all-append}
-use Rattle.basics.proofs.Lists.{all-each, all-upFrom, all-keep}
+use Rattle.basics.proofs.Lists.{all-each}
 use Rattle.words.specs.Word.{linesOn}
 use Rattle.circuit.specs.Gates.{gateAt}
 use Rattle.circuit.specs.Controls.{isControl, isOther}
@@ -30,25 +30,6 @@ use Rattle.demands.proofs.FaultLists.Before.{by-place, by-line, by-valu
 ordered-append : (fs hs : List Fault) → Ordered fs → Ordered hs → All (λ f. All (Before f) hs) fs → Ordered (fs ++ hs)
 ordered-append [] hs o p w = p
 ordered-append (f ∷ fs) hs o p w = (all-append (Before f) fs hs (o .0) (w .0), ordered-append fs hs (o .1) p (w .1))
-
--- numbers that rise
-abbrev Rising : List ℕ → Type 0
-Rising [] = Unit {0}
-Rising (y ∷ ys) = All (λ z. y < z) ys × Rising ys
-
-rising-up : (a k : ℕ) → Rising (upFrom a k)
-unfolding upFrom
-rising-up a zero = tt
-rising-up a (suc k) = (all-upFrom (λ z. a < z) (suc a) k (λ i l m. l), rising-up (suc a) k)
-
-rising-pick : (b : Bool) (y : ℕ) (ys : List ℕ) → All (λ z. y < z) ys → Rising ys → Rising (choice b (y ∷ ys) ys)
-rising-pick true y ys w r = (w, r)
-rising-pick false y ys w r = r
-
-rising-keep : (p : ℕ → Bool) (ys : List ℕ) → Rising ys → Rising (keep p ys)
-unfolding keep
-rising-keep p [] r = tt
-rising-keep p (y ∷ ys) r = rising-pick (p y) y (keep p ys) (all-keep (λ z. y < z) p ys (r .0)) (rising-keep p ys (r .1))
 
 -- what is made of rising numbers is in order, where each part is and the parts of two numbers are
 module _ (F : ℕ → List Fault) (Part : ℕ → Fault → Type 0) (parts : (y : ℕ) → All (Part y) (F y))

@@ -54,6 +54,7 @@ pub mod Images
 pub mod ImagesOfCalls
 pub mod RealForm
 pub mod RealFormLaws
+pub mod RealParts
 pub mod RealLines
 pub mod RealStages
 pub mod RealReading

@@ -5,29 +5,27 @@ use mathlib.Core.Logic.{_↔_, _≢_, _⊎_, ⊎-elim}
 use mathlib.Core.Bool.{Bool, true, false, not, _&&_, _||_, false≢true}
 use mathlib.Core.List.{List, [], _∷_, _++_, List·Memᴰ, List·Memᴰ·head, List·Memᴰ·tail, List·Memᴰ·not-nil, List·Memᴰ·cases-cons, Memᴰ·cast}
 use native.Mathlib.Omega.{arith}
-use lib.Bits.{bitAnd, and-zero-l, and-zero-r, xor-disjoint}
-use lib.ListN.{length, take, replicate, length-append, length-replicate}
+use lib.ListN.{length, take, length-append}
 use lib.Seq.{take-suc, take-length, take-at, getD-at}
 use lib.Dec.{eqb, leb}
-use borrow.Author.Tests.{eqb-true, eq-eqb, ne-eqb, leb-true, le-leb, not-true}
+use borrow.Author.Tests.{leb-true, le-leb, not-true}
 use Rattle.basics.specs.Choice.{choice}
-use Rattle.basics.specs.Lists.{some, keep, All}
+use Rattle.basics.specs.Lists.{some, All}
 use Rattle.basics.proofs.Tests.{by-test, by-equal, and-both, and-true, or-left, or-right}
 use Rattle.basics.proofs.Lists.{some-entry, all-entry}
 use Rattle.words.specs.Word.{bit, flip}
-use Rattle.words.proofs.Bits.{by-bit, bit-of-zero, bit-and, bit-other-line, word-ext-all}
-use Rattle.words.proofs.Lines.{bit-flip-same, bit-flip-other}
+use Rattle.words.proofs.Bits.{by-bit, bit-of-zero, word-ext-all}
+use Rattle.words.proofs.Lines.{bit-flip-same, bit-flip-other, flip-adds}
 use Rattle.circuit.specs.declared.Gate.{Gate}
 use Rattle.text.specs.Texts.{ascii, every, same, among, distinct, place}
 use Rattle.text.specs.Decimal.{decimal, isDigit}
 use Rattle.text.proofs.EveryLaws.{every-append}
 use Rattle.text.proofs.SameLaws.{same-refl, same-true, place-found, place-passed}
 use Rattle.text_words.specs.Words.{inFront, isBlank, wordEnds, wordsOf}
-use Rattle.real.specs.Form.{isLetter, isNameByte, isName, isPlain, isConstants, isGate, optionalParts, controlsOf, targetOf, maskOf, gateOf}
+use Rattle.real.specs.Form.{isLetter, isNameByte, isName, isPlain, isGate, controlsOf, targetOf, maskOf, gateOf}
 use Rattle.demands.proofs.RuleWords.{either}
 use Rattle.demands.proofs.RulesInWords.{at-least, equal}
-use Rattle.demands.proofs.RealForm.{Word, Plain, Letter, Digit, Name, Once, NameOf, Optional, SaysGate}
-use Rattle.demands.proofs.RealForm.Optional.{inputs, outputs, garbage, constants}
+use Rattle.demands.proofs.RealForm.{Word, Plain, Letter, Digit, Name, Once, NameOf, SaysGate}
 
 -- ---- tests in words
 
@@ -37,10 +35,10 @@ both-pass a b p q = (
   λ w. and-true (p .1 (w .0)) (q .1 (w .1)),
 )
 
-text-iff : (t u : Word) → (same t u ≡ true) ↔ (t ≡ u)
+pub text-iff : (t u : Word) → (same t u ≡ true) ↔ (t ≡ u)
 text-iff t u = (same-true t u, λ e. ap (same t) (sym e) ∙ same-refl t)
 
-differs : (t u : Word) → t ≢ u → same t u ≡ false
+pub differs : (t u : Word) → t ≢ u → same t u ≡ false
 differs t u d = by-test (same t u) (λ e. absurd (d (same-true t u e))) (λ e. e)
 
 module _ {A : Type 0} (p : A → Bool) (P : A → Type 0) (means : (a : A) → (p a ≡ true) ↔ P a) where
@@ -110,7 +108,7 @@ mean-names (w ∷ ws) n =
 
 -- ---- a word among some
 
-among-mean : (t : Word) (us : List Word) → among t us ≡ true → List·Memᴰ t us
+pub among-mean : (t : Word) (us : List Word) → among t us ≡ true → List·Memᴰ t us
 unfolding among
 among-mean t us e = let r = some-entry (same t) us e in Memᴰ·cast (same-true t (r .0) (r .2)) (r .1)
 
@@ -169,15 +167,6 @@ named-among (v ∷ names) (suc j) w h = or-right (same w v) (named-among names j
 
 -- ---- the mask of some names
 
--- a line that was off is put in by its word
-put-in : (m p : ℕ) → bit m p ≡ 0 → 2 ^ p + m ≡ flip m p
-unfolding flip
-put-in m p e = omega (arith, xor-disjoint m (2 ^ p) (word-ext-all (bitAnd m (2 ^ p)) 0 apart))
-  where
-    apart : (j : ℕ) → bit (bitAnd m (2 ^ p)) j ≡ bit 0 j
-    apart j = rw (bit-and m (2 ^ p) j, bit-of-zero j)
-        (by-equal p j (λ q. rw (← q, e) (and-zero-l (bit (2 ^ p) p))) (λ d. rw (bit-other-line p j d) (and-zero-r (bit m j))))
-
 -- line j is on in the mask exactly if it is named
 abbrev Named : List Word → List Word → ℕ → Type 0
 Named names ws j = (w : Word) × List·Memᴰ w ws × NameOf names j w
@@ -197,7 +186,7 @@ module _ (names : List Word) (once : Once names) where
       let others = mask-on ws (u .1) (o .1) in
       let off : bit m p ≡ 0 = by-bit m p (λ e. e)
       (λ e. let v = others p .0 e in absurd (all-entry (λ x. w ≢ x) (v .1) (o .0) (sym (there .1) ∙ v .2 .1))) in
-      let is = put-in m p off in
+      let is : 2 ^ p + m ≡ flip m p = omega (arith, flip-adds m p off) in
       rw is (by-equal p j
       (λ q. (
         λ e. (w, List·Memᴰ·head refl, subst (λ i. NameOf names i w) q there),
@@ -326,90 +315,3 @@ module _ (names : List Word) (once : Once names) where
             (ap distinct (controls-last cs t) ∙ mean-distinct cs (s .once)));
         says = λ i. mask i ∷ spare i ∷ target i ∷ [];
       }
-
--- ---- optional lines
-
--- the parts that may still come: those that came are out
-pub part-kept : (w v : Word) (parts : List Word) → among v (keep (λ p. not (same p w)) parts) ≡ true → (among v parts ≡ true) × (w ≢ v)
-unfolding among some keep
-part-kept w v [] e = absurd (false≢true e)
-part-kept w v (p ∷ parts) e = by-test (same p w)
-    (λ s. let r = part-kept w v parts (rw s at e) in (or-right (same v p) (r .0), r .1))
-    (λ s. by-test (same v p)
-    (λ q. (or-left (some (same v) parts) q, λ z. false≢true (sym s ∙ text-iff p w .1 (sym (same-true v p q) ∙ sym z))))
-    (λ q. let r = part-kept w v parts (rw (s, q) at e) in (or-right (same v p) (r .0), r .1)))
-
-pub kept-part : (w v : Word) (parts : List Word) → among v parts ≡ true → w ≢ v → among v (keep (λ p. not (same p w)) parts) ≡ true
-unfolding among some keep
-kept-part w v [] e d = absurd (false≢true e)
-kept-part w v (p ∷ parts) e d = by-test (same p w)
-    (λ s.
-    let none : same v p ≡ false = differs v p (λ z. d (sym (same-true p w s) ∙ sym z)) in
-    rw s (kept-part w v parts (rw none at e) d))
-    (λ s. rw s (by-test (same v p) (λ q. or-left _ q) (λ q. or-right (same v p) (kept-part w v parts (rw q at e) d))))
-
--- one word of n hyphens
-hyphens : (n : ℕ) (t : Word) → length t ≡ n → every (eqb 45) t ≡ true → t ≡ replicate n 45
-unfolding every
-hyphens zero [] h e = refl
-hyphens zero (b ∷ t) h e = absurd (omega arith)
-hyphens (suc n) [] h e = absurd (omega arith)
-hyphens (suc n) (b ∷ t) h e =
-    let w = and-both (eqb 45 b) (every (eqb 45) t) e in
-    ap₂ (λ x l. x ∷ l) (sym (eqb-true 45 b (w .0))) (hyphens n t (omega arith) (w .1))
-
-all-hyphens : (n : ℕ) → every (eqb 45) (replicate n 45) ≡ true
-unfolding every
-all-hyphens zero = refl
-all-hyphens (suc n) = all-hyphens n
-
-constants-mean : (n : ℕ) (more : List Word) → isConstants n more ≡ true → more ≡ replicate n 45 ∷ []
-unfolding isConstants
-constants-mean n [] e = absurd (false≢true e)
-constants-mean n (t ∷ []) e =
-    let w = and-both (eqb (length t) n) (every (eqb 45) t) e in
-    ap (λ l. l ∷ []) (hyphens n t (eqb-true (length t) n (w .0)) (w .1))
-constants-mean n (t ∷ u ∷ more) e = absurd (false≢true (sym (ne-eqb (suc (suc (length more))) 1 (λ z. omega arith)) ∙ and-both _ _ e .0))
-
-mean-constants : (n : ℕ) → isConstants n (replicate n 45 ∷ []) ≡ true
-unfolding isConstants
-mean-constants n = and-true (eq-eqb (length (replicate n 45)) n (length-replicate n 45)) (all-hyphens n)
-
--- the test of an optional line
-abbrev pub partOk : ℕ → Word → List Word → Bool
-partOk n w more = not (same w (ascii ".constants")) || isConstants n more
-
-pub optional-means : (n : ℕ) (w : Word) (more : List Word) → among w optionalParts ≡ true → partOk n w more ≡ true → Optional n (w ∷ more)
-unfolding optionalParts
-optional-means n w more e ok =
-    let m = among-mean w (ascii ".inputs" ∷ ascii ".outputs" ∷ ascii ".garbage" ∷ ascii ".constants" ∷ []) e in
-    ⊎-elim (λ q. inputs more (ap (λ v. v ∷ more) q))
-    (λ m. ⊎-elim (λ q. outputs more (ap (λ v. v ∷ more) q))
-    (λ m. ⊎-elim (λ q. garbage more (ap (λ v. v ∷ more) q))
-    (λ m. ⊎-elim
-    (λ q. constants (ap₂ (λ v l. v ∷ l) q (constants-mean n more (rw (text-iff w (ascii ".constants") .1 q) at ok))))
-    (λ m. absurd (List·Memᴰ·not-nil m))
-    (List·Memᴰ·cases-cons m)) (List·Memᴰ·cases-cons m)) (List·Memᴰ·cases-cons m)) (List·Memᴰ·cases-cons m)
-
--- an optional line passes it, and is no .begin
-pub record Passes (n : ℕ) (line : List Word) : Type 0 where
-  pub word : Word
-  pub more : List Word
-  pub line-is : line ≡ word ∷ more
-  pub part : among word optionalParts ≡ true
-  pub ok : partOk n word more ≡ true
-  pub no-begin : same word (ascii ".begin") ≡ false
-
-pub optional-passes : (n : ℕ) (line : List Word) → Optional n line → Passes n line
-unfolding ascii same among some optionalParts
-optional-passes n line (inputs more e) = record { word = ascii ".inputs"; more = more; line-is = e; part = refl; ok = refl; no-begin = refl }
-optional-passes n line (outputs more e) = record { word = ascii ".outputs"; more = more; line-is = e; part = refl; ok = refl; no-begin = refl }
-optional-passes n line (garbage more e) = record { word = ascii ".garbage"; more = more; line-is = e; part = refl; ok = refl; no-begin = refl }
-optional-passes n line (constants e) = record {
-  word = ascii ".constants";
-  more = replicate n 45 ∷ [];
-  line-is = e;
-  part = refl;
-  ok = mean-constants n;
-  no-begin = refl;
-}

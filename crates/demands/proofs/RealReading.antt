@@ -24,7 +24,7 @@ use Rattle.real.specs.Reading.Reading.{circuit, faulty}
 use Rattle.real.specs.Export.{realText}
 use Rattle.real.proofs.RoundTrip.{round-trip}
 use Rattle.demands.proofs.RealForm.{Word, OfForm}
-use Rattle.demands.proofs.RealFormLaws.{partOk}
+use Rattle.demands.proofs.RealParts.{partOk}
 use Rattle.demands.proofs.RealLines.{clash, same-circuit, lines-counted, counted-lines}
 use Rattle.demands.proofs.RealStages.{some-words, said, say-read}
 

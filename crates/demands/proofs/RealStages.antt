@@ -24,21 +24,8 @@ use Rattle.real.specs.Reading.{Reading, withGate, onward}
 use Rattle.real.specs.Reading.Reading.{circuit}
 use Rattle.demands.proofs.Machine.{flat}
 use Rattle.demands.proofs.RealForm.{Word, Name, Once, Optional, kind, SayGates, SayCircuit}
-use Rattle.demands.proofs.RealFormLaws.{
-  words-some,
-  names-mean,
-  mean-names,
-  distinct-mean,
-  mean-distinct,
-  gateSaid,
-  gate-means,
-  gate-tested,
-  part-kept,
-  kept-part,
-  partOk,
-  optional-means,
-  optional-passes,
-}
+use Rattle.demands.proofs.RealFormLaws.{words-some, names-mean, mean-names, distinct-mean, mean-distinct, gateSaid, gate-means, gate-tested}
+use Rattle.demands.proofs.RealParts.{part-kept, kept-part, partOk, optional-means, optional-passes}
 use Rattle.demands.proofs.RealLines.{clash, same-circuit, gate-circuit, readWords}
 
 -- ---- from words that are read as a circuit, stage by stage

@@ -7,11 +7,12 @@ use native.Mathlib.Numerals.{add-one}
 use native.Mathlib.Nat.{mod-one, div-one, mod-lt, mod-eq-of-lt}
 use lib.ListN.{length, take, getD, length-append, length-map}
 use lib.Seq.{take-at, getD-at}
-use lib.Pow.{shr-shr, mod-mod-pow, field}
+use lib.Pow.{mod-mod-pow, field}
 use lib.Dec.{eqb}
 use Rattle.basics.specs.Choice.{choice}
 use Rattle.basics.specs.Lists.{upFrom, keep, All}
 use Rattle.words.specs.Word.{bit, linesOn}
+use Rattle.words.proofs.Bits.{half-on}
 use Rattle.real.specs.Form.{maskOf, controlsOf, targetOf}
 use Rattle.real.specs.Export.{nameOf}
 use Rattle.real.proofs.NameLaws.{place-of}
@@ -33,9 +34,6 @@ low-digit x k =
     let m : x % 2 ^ (k + 1) % 2 ≡ x % 2 = mod-mod-pow x k 1 in
     let f : x % 2 ^ (k + 1) / 2 ≡ x / 2 % 2 ^ k = field x k 1 in
     rw (← add-one k) (omega arith)
-
-half-on : (w a : ℕ) → w / 2 ^ a / 2 ≡ w / 2 ^ suc a
-half-on w a = shr-shr w a 1 ∙ rw (add-one a)
 
 -- the lines from a on, of them k, make the k digits above the a lowest
 on-digits : (w a k : ℕ) → powers (keep (λ j. eqb (bit w j) 1) (upFrom a k)) ≡ 2 ^ a * (w / 2 ^ a % 2 ^ k)

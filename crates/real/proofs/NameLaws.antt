@@ -1,15 +1,15 @@
 -- Laws of the names x0, x1 and on: they are names, all different, and xj is found at place j.
 use Prim.Native.Nat.{ℕ, zero, suc, _+_, _<_}
 use mathlib.Core.Path.{_≡_, refl, sym, ap, _∙_}
-use mathlib.Core.Bool.{Bool, true, false, not}
+use mathlib.Core.Bool.{true, false, not}
 use mathlib.Core.List.{List, [], _∷_, map}
 use native.Mathlib.Omega.{arith}
 use lib.ListN.{length}
 use lib.Dec.{eqb, leb}
 use borrow.Author.Tests.{leb-true, le-leb}
-use Rattle.basics.specs.Lists.{upFrom, keep, some, All}
+use Rattle.basics.specs.Lists.{upFrom, some, All}
 use Rattle.basics.proofs.Tests.{by-test, and-both, and-true, or-false, or-right, or-left}
-use Rattle.basics.proofs.Lists.{all-upFrom, all-keep}
+use Rattle.basics.proofs.Rising.{Rising}
 use Rattle.text.specs.Texts.{ascii, every, same, among, distinct, place}
 use Rattle.text.specs.Decimal.{decimal, isDigit}
 use Rattle.text.proofs.SameLaws.{same-refl, same-true, place-found, place-passed}
@@ -91,10 +91,6 @@ all-visible [] = tt
 all-visible (j ∷ js) = (visible-name j, all-visible js)
 
 -- rising lines have distinct names
-abbrev pub Rising : List ℕ → Type 0
-Rising [] = Unit {0}
-Rising (j ∷ js) = All (λ k. j < k) js × Rising js
-
 none-above : (j : ℕ) (js : List ℕ) → All (λ k. j < k) js → among (nameOf j) (map nameOf js) ≡ false
 unfolding among some
 none-above j [] h = refl
@@ -104,15 +100,3 @@ pub distinct-rising : (js : List ℕ) → Rising js → distinct (map nameOf js)
 unfolding distinct
 distinct-rising [] h = refl
 distinct-rising (j ∷ js) h = and-true (ap not (none-above j js (h .0))) (distinct-rising js (h .1))
-
-pub rising-up : (a k : ℕ) → Rising (upFrom a k)
-unfolding upFrom
-rising-up a zero = tt
-rising-up a (suc k) = (all-upFrom (λ i. a < i) (suc a) k (λ i h g. omega arith), rising-up (suc a) k)
-
-pub rising-keep : (p : ℕ → Bool) (js : List ℕ) → Rising js → Rising (keep p js)
-unfolding keep
-rising-keep p [] h = tt
-rising-keep p (j ∷ js) h = by-test (p j)
-    (λ e. rw e (all-keep (λ k. j < k) p js (h .0), rising-keep p js (h .1)))
-    (λ e. rw e (rising-keep p js (h .1)))

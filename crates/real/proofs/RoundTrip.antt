@@ -9,6 +9,7 @@ use lib.Dec.{eqb}
 use borrow.Author.Tests.{le-leb, eqb-true, not-false}
 use Rattle.basics.specs.Lists.{upFrom, keep, each, some, All}
 use Rattle.basics.proofs.Tests.{and-true, choice-true, choice-false}
+use Rattle.basics.proofs.Rising.{rising-up, rising-keep}
 use Rattle.basics.proofs.Lists.{all-upFrom, length-upFrom}
 use Rattle.basics.proofs.All.{all-map, all-append}
 use Rattle.refusals.specs.Tables.{firstOf}
@@ -35,7 +36,7 @@ use Rattle.real.specs.Reading.{withGate, onward, readFrom, reading}
 use Rattle.real.specs.Reading.Reading.{circuit}
 use Rattle.real.specs.Export.{nameOf, gateLine, headLines, joined, realText}
 use Rattle.real.proofs.JoinLaws.{visible, Visible, joined-words, joined-plain, joined-lines}
-use Rattle.real.proofs.NameLaws.{visible-decimal, all-visible, all-names, all-declared, distinct-rising, rising-up, rising-keep, place-of}
+use Rattle.real.proofs.NameLaws.{visible-decimal, all-visible, all-names, all-declared, distinct-rising, place-of}
 use Rattle.real.proofs.MaskLaws.{mask-of, length-snoc, controls-of, target-of}
 
 -- a line of visible words is read by its words

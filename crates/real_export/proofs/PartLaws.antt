@@ -9,8 +9,8 @@ use lib.Dec.{eqb, ltb}
 use borrow.Author.Tests.{eq-eqb, ne-eqb, eqb-false, ltb-true, ltb-false}
 use Rattle.basics.specs.Lists.{upFrom, each}
 use Rattle.basics.proofs.Tests.{by-test, by-equal, choice-true, choice-false}
-use Rattle.basics.proofs.Lists.{keep-le, length-upFrom}
 use Rattle.words.specs.Word.{bit, allOnes, linesOn}
+use Rattle.words.proofs.AndLaws.{length-lines-le}
 use Rattle.words.proofs.SplitLaws.{length-wide}
 use Rattle.text.specs.Texts.{ascii}
 use Rattle.text.specs.Decimal.{decimal}
@@ -110,17 +110,13 @@ names-few n w h = omega (arith, some-names w 0 n, all-names 0 n (omega arith))
 
 -- ---- the line of a gate
 
-lines-few : (n w : ℕ) → length (linesOn n w) ≤ n
-unfolding linesOn
-lines-few n w = omega (arith, keep-le (λ j. eqb (bit w j) 1) (upFrom 0 n), length-upFrom 0 n)
-
 module _ (n : ℕ) (g : Gate) (fits : n ≤ mostLines) (ok : GateOk n g) where
   -- the ones of a mask of n lines are its lines
   pub gate-lines : (ones : ℕ) → ones ≡ length (linesOn 32 (g .controls)) → ones + 1 ≡ suc (length (linesOn n (g .controls)))
   gate-lines ones e = omega (arith, length-wide n 32 (g .controls) fits (ok .controls-in))
 
   pub lines-below : suc (length (linesOn n (g .controls))) < 100
-  lines-below = omega (arith, lines-few n (g .controls))
+  lines-below = omega (arith, length-lines-le n (g .controls))
 
   pub target-below : g .target < 100
   target-below = omega (arith, ok .target-in)

@@ -13,7 +13,7 @@ use Rattle.basics.specs.Lists.{some}
 use Rattle.basics.proofs.Tests.{by-test, by-equal, and-both, and-true, and-left, and-right, or-false, or-right, or-neither}
 use Rattle.words.specs.Word.{bit, flip}
 use Rattle.words.proofs.Bits.{bit-le, bit-of-zero}
-use Rattle.words.proofs.Lines.{bit-flip-same, bit-flip-other}
+use Rattle.words.proofs.Lines.{bit-flip-same, bit-flip-other, flip-adds}
 use Rattle.text.specs.Texts.{every, same, among, distinct, place}
 use Rattle.text.proofs.SameLaws.{same-refl, same-true, place-found, place-passed, among-placed}
 use Rattle.text_words.specs.Words.{wordsOf}
@@ -23,7 +23,6 @@ use Rattle.real.specs.Form.{Word, maskOf}
 use Rattle.real_gates.specs.Keys.{Known}
 use Rattle.real_gates.specs.Gates.{areControls, Masked}
 use Rattle.real_gates.proofs.KeyLaws.{among-unknown}
-use Rattle.real_gates.proofs.MaskLaws.{flip-adds, mask-more}
 
 -- ---- one text more at the end
 
@@ -80,6 +79,12 @@ placed [] t h = absurd (omega arith)
 placed (u ∷ us) t h = by-test (same u t)
     (λ e. ap (λ i. getD (u ∷ us) i []) (place-found u us t e) ∙ same-true u t e)
     (λ e. let w = place-passed u us t e in ap (λ i. getD (u ∷ us) i []) w ∙ placed us t (omega arith))
+
+-- the mask of one word more
+mask-more : (names ws : List Word) (w : Word) → maskOf names (ws ++ (w ∷ [])) ≡ maskOf names ws + 2 ^ place names w
+unfolding maskOf
+mask-more names [] w = omega arith
+mask-more names (v ∷ ws) w = let i = mask-more names ws w in omega arith
 
 -- the mask of some controls: the line of a declared text is 1 where it is one of them
 pub record Masks (names ws : List Word) (m : ℕ) : Type 0 where

@@ -1,13 +1,13 @@
 -- Laws of a line that is not skipped where a gate or .end is due, by each outcome of the code's tests.
 use Prim.Native.Nat.{ℕ, _≤_}
 use mathlib.Core.Path.{_≡_, refl, sym, ap, ap₂, _∙_}
-use mathlib.Core.Bool.{Bool, true, false, not, _&&_}
+use mathlib.Core.Bool.{Bool, true, false, not, _&&_, and-true}
 use mathlib.Core.List.{List, _∷_}
 use native.Mathlib.Omega.{arith}
 use lib.ListN.{length, getD}
 use lib.Dec.{eqb}
 use borrow.Author.Tests.{ne-eqb}
-use Rattle.basics.proofs.Tests.{by-test, and-one}
+use Rattle.basics.proofs.Tests.{by-test}
 use Rattle.text.specs.Texts.{ascii, every, begins, same}
 use Rattle.text.proofs.EveryLaws.{begins-first}
 use Rattle.text_words.specs.Words.{wordsOf}
@@ -31,7 +31,7 @@ unfolding isLetter
 t-is-none b e = sym (ap isOtherByte e)
 
 pub other-letter : (b : ℕ) → (b ≡ 116 → ⊥) → isLetter b ≡ isOtherByte b
-other-letter b d = rw (ne-eqb b 116 d) (sym (and-one (isLetter b)))
+other-letter b d = rw (ne-eqb b 116 d) (sym (and-true (isLetter b)))
 
 -- ---- a gate by its token and its words
 

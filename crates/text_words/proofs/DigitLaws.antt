@@ -1,14 +1,14 @@
 -- Laws of a text that is compared with a number in decimal, from its last digit on.
 use Prim.Native.Nat.{ℕ, suc, _+_, _-_, _/_, _%_, _<_, _≤_}
 use mathlib.Core.Path.{_≡_, refl, sym, ap, _∙_}
-use mathlib.Core.Bool.{false, _&&_}
+use mathlib.Core.Bool.{false, _&&_, and-true}
 use mathlib.Core.List.{List, [], _∷_, _++_}
 use native.Mathlib.Omega.{arith}
 use lib.ListN.{length, take, getD}
 use lib.Seq.{take-suc, length-take-le}
 use lib.Dec.{eqb}
 use borrow.Author.Tests.{eq-eqb, ne-eqb}
-use Rattle.basics.proofs.Tests.{and-right, and-one}
+use Rattle.basics.proofs.Tests.{and-right}
 use Rattle.text.specs.Texts.{same}
 use Rattle.text.specs.Decimal.{digit, decimal}
 use Rattle.text.proofs.SameLaws.{same-lengths}
@@ -62,4 +62,4 @@ module _ (t : List ℕ) (end x : ℕ) (fits : end ≤ length t) where
 
   pub digits-last : x < 10 → end ≡ 1 → same (take end t) (decimal x) ≡ eqb (getD t (end - 1) 0) (48 + x)
   unfolding same digit
-  digits-last h e = rw (decimal-small x h, e, take-suc t 0 0 (omega arith)) (and-one (eqb (getD t 0 0) (48 + x)))
+  digits-last h e = rw (decimal-small x h, e, take-suc t 0 0 (omega arith)) (and-true (eqb (getD t 0 0) (48 + x)))

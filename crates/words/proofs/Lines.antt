@@ -1,15 +1,15 @@
 -- Laws of one line: inverted, and forced.
-use Prim.Native.Nat.{ℕ, _-_, _^_, _≤_, _<_}
+use Prim.Native.Nat.{ℕ, _+_, _-_, _^_, _≤_, _<_}
 use mathlib.Core.Path.{_≡_, sym, ap, _∙_}
 use mathlib.Core.Logic.{_↔_, _≢_}
 use native.Mathlib.Omega.{arith}
 use lib.Pow.{pow-lt}
-use lib.Bits.{bitXor, xor-lt, xor-zero-r}
+use lib.Bits.{bitAnd, bitXor, and-zero-l, and-zero-r, xor-disjoint, xor-lt, xor-zero-r}
 use lib.Dec.{eqb}
 use borrow.Author.Tests.{eq-eqb, ne-eqb}
 use Rattle.basics.proofs.Tests.{by-test, by-equal}
 use Rattle.words.specs.Word.{bit, flip, force}
-use Rattle.words.proofs.Bits.{bit-le, bit-xor, bit-xor-one, bit-one-line, bit-other-line, word-ext-all}
+use Rattle.words.proofs.Bits.{bit-le, bit-and, bit-xor, bit-xor-one, bit-of-zero, bit-one-line, bit-other-line, word-ext-all}
 
 pub bit-flip-same : (s j : ℕ) → bit (flip s j) j ≡ 1 - bit s j
 unfolding flip
@@ -23,6 +23,15 @@ pub flip-flip : (s j : ℕ) → flip (flip s j) j ≡ s
 flip-flip s j = word-ext-all (flip (flip s j) j) s (λ k. by-equal j k
     (λ e. rw (← e) (omega (arith, bit-flip-same (flip s j) j, bit-flip-same s j, bit-le s j)))
     (λ d. bit-flip-other (flip s j) j k d ∙ bit-flip-other s j k d))
+
+-- a line that is 0 is added
+pub flip-adds : (s j : ℕ) → bit s j ≡ 0 → flip s j ≡ s + 2 ^ j
+unfolding flip
+flip-adds s j e = xor-disjoint s (2 ^ j) (word-ext-all (bitAnd s (2 ^ j)) 0 apart)
+  where
+    apart : (k : ℕ) → bit (bitAnd s (2 ^ j)) k ≡ bit 0 k
+    apart k = rw (bit-and s (2 ^ j) k, bit-of-zero k)
+        (by-equal j k (λ q. rw (← q, e) (and-zero-l (bit (2 ^ j) j))) (λ d. rw (bit-other-line j k d) (and-zero-r (bit s k))))
 
 pub flip-lt : (n s j : ℕ) → s < 2 ^ n → j < n → flip s j < 2 ^ n
 unfolding flip
