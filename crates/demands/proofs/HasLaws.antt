@@ -129,7 +129,6 @@ module _ (n : ℕ) (gs : List Gate) (f : Fault) where
       (and-true (ap not (by-test (touches g (f .line)) (λ o. absurd (neither (touches-iff g (f .line) .0 o))) (λ o. o))) (eq-eqb (f .value) 0 v)))
     where
       neither : Touches (gateAt gs (f .place)) (f .line) → ⊥
-      unfolding gateAt noGate
       neither (inl on) = c on
       neither (inr at) = t at
 
