@@ -3,7 +3,7 @@ use Prim.Native.Nat.{ℕ}
 use mathlib.Core.Path.{_≡_, sym, _∙_}
 use mathlib.Core.Bool.{true, false, true≢false}
 use Rattle.basics.proofs.Tests.{bool-ext, by-test}
-use Rattle.words.specs.Word.{bit, flip, force}
+use Rattle.words.specs.Word.{bit, force}
 use Rattle.words.proofs.Lines.{bit-flip-other, bit-force-other, force-flip}
 use Rattle.circuit.specs.Controls.{isControl, touches}
 use Rattle.circuit.specs.Runs.{fires, step}

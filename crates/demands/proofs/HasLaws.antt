@@ -1,14 +1,14 @@
 -- The faults that the contracts cite are those of `Machine` and `FaultLists`: which faults a circuit has, alone, in a list of records, and together.
 use Prim.Native.Nat.{ℕ, zero, suc, _*_, _≤_, _<_, zero-le, suc-le-suc}
 use mathlib.Core.Path.{_≡_, refl, sym, ap, _∙_}
-use mathlib.Core.Logic.{_≢_, _↔_, _⊎_}
+use mathlib.Core.Logic.{_≢_, _↔_}
 use mathlib.Core.Logic._⊎_.{inl, inr}
 use mathlib.Core.Bool.{true, false, true≢false, not, _||_, or-true}
 use mathlib.Core.List.{List, [], _∷_}
 use native.Mathlib.Omega.{arith}
 use lib.ListN.{length}
 use lib.Dec.{eqb, ltb, leb}
-use borrow.Author.Tests.{eq-eqb, ne-eqb, eqb-true, eqb-false, leb-true, le-leb, ltb-true, lt-ltb, not-true}
+use borrow.Author.Tests.{eq-eqb, eqb-true, leb-true, le-leb, ltb-true, lt-ltb, not-true}
 use Rattle.basics.proofs.Tests.{by-test, by-equal, and-true, and-both}
 use Rattle.words.specs.Word.{bit}
 use Rattle.circuit.specs.Gates.{gateAt, noGate}

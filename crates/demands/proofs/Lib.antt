@@ -37,6 +37,7 @@ pub mod Reporting
 pub mod Accepting
 pub mod AcceptingOfC
 pub mod Demand2
+pub mod StuckLines
 pub mod SetsCatch
 pub mod Demand3
 pub mod Demand3OfC

@@ -5,6 +5,7 @@ use mathlib.Core.Bool.{true}
 use mathlib.Core.List.{List, [], _∷_, _++_, map, List·Memᴰ}
 use native.Mathlib.Omega.{arith}
 use lib.ListN.{length, getD, take, drop}
+use lib.Seq.{take-at}
 use denote.Ref.{now}
 use Rattle.basics.specs.Lists.{upFrom, All}
 use Rattle.basics.proofs.Lists.{all-entry, map-upFrom-at, length-map-upFrom}
@@ -60,6 +61,14 @@ pub record Stands (n : ℕ) (gs : List Gate) (set room values exit : List ℕ) :
   pub inputs : All (λ x. x < 2 ^ n) set
   pub catches-all : EveryCaught n gs 1 set
 
+-- so it is what stands at the front
+pub in-front : {n : ℕ} {gs : List Gate} {set room values exit : List ℕ} → Stands n gs set room values exit → (k : ℕ) → values ≡ k ∷ []
+    → set ≡ take k exit
+in-front {set = set} stands k e =
+    let told = stands .values-are in
+    let number : k ≡ length set = cc in
+    sym (ap (take k) (stands .front) ∙ take-at set _ k (sym number))
+
 -- all zeros, all ones, then for i = 1 to d the input that gives at level i the inverse of what all zeros gives
 pub record MakesBackward (n : ℕ) (words room values exit : List ℕ) : Type 0 where
   pub gs : List Gate
@@ -71,8 +80,7 @@ pub record MakesBackward (n : ℕ) (words room values exit : List ℕ) : Type 0 
   pub one-a-gate : length later ≡ length gs
   pub inverse : (i s t : ℕ) → 1 ≤ i → i ≤ length gs → Level gs i 0 s → Level gs i (getD later (i - 1) 0) t → (j : ℕ) → j < n → bit t j ≡ 1 - bit s j
 
--- of at most 12 lines: the best input for what is left, again and again; at most 2 + floor(log2 S) of them, where S is the number of
--- sites
+-- of at most 12 lines: the best input for what is left, again and again; at most 2 + floor(log2 S) of them, of S sites
 pub record MakesCompact (n : ℕ) (words room values exit : List ℕ) : Type 0 where
   pub gs : List Gate
   pub circuit : Circuit n words gs

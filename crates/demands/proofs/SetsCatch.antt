@@ -1,10 +1,9 @@
 -- What the calls tell of the vectors of a set that catches every single stuck-at fault: caught, of each fault and each multiple fault that they take.
 use Prim.Native.Nat.{ℕ, _+_, _^_, _≤_, _<_}
-use mathlib.Core.Path.{_≡_, sym, ap, _∙_, subst}
+use mathlib.Core.Path.{_≡_, refl, sym, ap, _∙_, subst}
 use mathlib.Core.Bool.{true}
 use mathlib.Core.List.{List, [], _∷_, List·Memᴰ}
 use lib.ListN.{length, take}
-use lib.Seq.{take-at}
 use Rattle.basics.specs.Choice.{count}
 use Rattle.basics.specs.Lists.{All}
 use Rattle.basics.proofs.Lists.{all-entry}
@@ -23,14 +22,14 @@ use Rattle.multiple_faults.specs.Multiple.{caughtTogether}
 use Rattle.multiple_faults.specs.Rules.{entriesRows, multipleRows}
 use Rattle.faults.specs.declared.Fault.{Fault}
 use Rattle.simulator.proofs.RuleLaws.{catch-ok}
-use Rattle.testsets.proofs.Multiple.{deepest, deepest-caught}
 use Rattle.demands.proofs.Machine.{Circuit, CaughtTogether, Has, Multiple}
 use Rattle.demands.proofs.MachineLaws.{circuit-ok, gates-flat}
-use Rattle.demands.proofs.HasLaws.{has-of, has-line, has-value}
+use Rattle.demands.proofs.HasLaws.{has-of, has-value}
 use Rattle.demands.proofs.ValidLists.{multiple-is}
 use Rattle.demands.proofs.FaultyLaws.{caught-means, together-means}
 use Rattle.demands.proofs.FaultLists.{Picks}
-use Rattle.demands.proofs.Sets.{MakesCompact}
+use Rattle.demands.proofs.StuckLines.{stuck-line, together-caught}
+use Rattle.demands.proofs.Sets.{MakesCompact, in-front}
 use Rattle.demands.proofs.Completeness.{EveryCaught}
 use Rattle.demands.proofs.Runs.{passes-too}
 
@@ -52,18 +51,13 @@ module _ (n : ℕ) (words : List ℕ) (gs : List Gate) (circuit : Circuit n word
       let passes = passes-too n words x v (faultRows n words f) taken (all-entry (λ y. y < 2 ^ n) (w .1) inputs) in
       (v, w .1, λ t p. p ∙ sym (fine-all (catchRows n words v f) _ passes) ∙ ap (λ b. answered (count b ∷ [])) is)
 
-  -- it catches each multiple fault too: by a vector that catches an entry of its deepest level
+  -- it catches each multiple fault too, whose entries are stuck lines
   multiple-caught : (fs : List Fault) → Multiple n gs fs → (v : ℕ) × List·Memᴰ v set × (caughtTogether gs fs v ≡ true)
-  multiple-caught fs multiple =
-      let deep = deepest fs (multiple .some) in
-      let m : Fault = deep .0 in
-      let is = all-entry (λ f. (f .class ≡ 1) × Has n gs f) (deep .1) (multiple .stuck) in
-      let w = every m (is .0) (is .1) in (
-        w .0,
-        w .1,
-        deepest-caught n gs (circuit-ok n words gs circuit) fs m (deep .1) (multiple .once) (deep .2) (has-line n gs m (is .1) (is .0)) (w .0)
-            (caught-means n gs m (is .1) (w .0) .1 (w .2)),
-      )
+  multiple-caught fs multiple = together-caught n gs set every (circuit-ok n words gs circuit) fs (record {
+    some = multiple .some;
+    stuck = all-map (λ f h. stuck-line n gs f (h .1) (h .0)) fs (multiple .stuck);
+    once = multiple .once;
+  })
 
   -- so one that is taken with any vector x is told as caught with some vector of the set
   pub tells-multiple : (x : ℕ) (list : List ℕ) → fine ≡ firstOf (multipleRows n words x list) fine
@@ -82,9 +76,7 @@ module _ (n : ℕ) (words : List ℕ) (gs : List Gate) (circuit : Circuit n word
 
 module _ (n : ℕ) (words room exit : List ℕ) (k : ℕ) (is : MakesCompact n words room (k ∷ []) exit) where
   front : is .set ≡ take k exit
-  front =
-      let number : k ≡ length (is .set) = (let e = is .stands .values-are in cc) in
-      sym (ap (take k) (is .stands .front) ∙ take-at (is .set) _ k (sym number))
+  front = in-front (is .stands) k refl
 
   pub compact-single : (x : ℕ) (f : Fault) → fine ≡ firstOf (catchRows n words x f) fine → f .class ≡ 1
       → (v : ℕ) × List·Memᴰ v (take k exit)

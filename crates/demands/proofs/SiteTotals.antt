@@ -1,11 +1,9 @@
--- The number of sites: what the contracts count is n and the size of each gate, and a class of stuck-at faults has two for each site.
+-- The number of sites: what the contracts count is n and the size of each gate, at least n and at most n at each level.
 use Prim.Native.Nat.{ℕ, zero, suc, _+_, _-_, _*_, _≤_}
-use mathlib.Core.Path.{_≡_, refl, sym, ap, ap₂, _∙_, subst}
+use mathlib.Core.Path.{_≡_, refl, sym, ap, ap₂, _∙_}
 use mathlib.Core.List.{List, [], _∷_}
-use native.Mathlib.Nat.{add-comm, add-assoc}
 use native.Mathlib.Omega.{arith}
 use lib.ListN.{length, getD}
-use Rattle.basics.specs.Choice.{count}
 use Rattle.basics.specs.Lists.{upFrom, keep}
 use Rattle.basics.specs.Sums.{sumFrom}
 use Rattle.basics.proofs.Lists.{length-keep}
@@ -35,7 +33,8 @@ sizes-are n (g ∷ gs) a =
     let none : a - a ≡ 0 = omega arith in
     let first : size (getD (g ∷ gs) (a - a) noGate) ≡ onesFrom (g .controls) 0 n + 1 =
     ap (λ k. size (getD (g ∷ gs) k noGate)) none ∙ ap (λ k. k + 1) (sym (ones-are g 0 n)) in
-    let rest : sumFrom (λ i. size (getD (g ∷ gs) (i - a) noGate)) (suc a) (length gs) ≡ sumFrom (λ i. size (getD gs (i - suc a) noGate)) (suc a) (length gs) =
+    let rest : sumFrom (λ i. size (getD (g ∷ gs) (i - a) noGate)) (suc a) (length gs)
+    ≡ sumFrom (λ i. size (getD gs (i - suc a) noGate)) (suc a) (length gs) =
     sum-cong _ _ (suc a) (length gs) (λ i lo hi.
     let next : i - a ≡ suc (i - suc a) = omega arith in ap (λ k. size (getD (g ∷ gs) k noGate)) next) in
     omega (arith, first, rest, sizes-are n gs (suc a))

@@ -1,5 +1,5 @@
 -- What each call takes, in the words of docs/SCOPE.md: exactly what breaks no rule of its table.
-use Prim.Native.Nat.{ℕ, suc, _+_, _*_, _^_, _≤_, _<_}
+use Prim.Native.Nat.{ℕ, suc, _+_, _^_, _≤_, _<_}
 use mathlib.Core.Path.{_≡_, sym, ap, _∙_, subst}
 use mathlib.Core.Logic.{_↔_, Iff·trans, Iff·and, by-cases}
 use mathlib.Core.List.{List, [], _∷_, _++_}

@@ -68,8 +68,8 @@ pub verdicts-are : (promisedVerdict (0 ∷ 7 ∷ []) ≡ answered (14 ∷ 16 ∷
     × (promisedVerdict (0 ∷ []) ≡ answered (8 ∷ 16 ∷ 0 ∷ 1 ∷ 0 ∷ 0 ∷ 0 ∷ []))
     × (promisedVerdict (0 ∷ 3 ∷ 5 ∷ []) ≡ answered (16 ∷ 16 ∷ 1 ∷ 0 ∷ 0 ∷ 0 ∷ 0 ∷ []))
 unfolding sampleWords upFrom keep each some bit flip force allOn allOnes linesOn wordOf gatesOf gateAt isControl touches step fires run forceAt
-    stuckRun faulty caught sites faultOf stuckFaults classFaults isClass caughtBySome verdict badLines badCounts badGate firstBadGate firstBadVector circuitSetRows
-    setRows classRows judgeRows firstBadFrom
+    stuckRun faulty caught sites faultOf stuckFaults classFaults isClass caughtBySome verdict badLines badCounts badGate firstBadGate firstBadVector
+    circuitSetRows setRows classRows judgeRows firstBadFrom
 verdicts-are = (refl, refl, refl)
 
 -- a list of one record, gate 1 missing, after vector 3, which catches it
@@ -102,9 +102,9 @@ promisedRoom words = after (compactRows 3 words (length room))
 
 -- the sample circuit, and the circuit with no gate
 pub rooms-are : (promisedRoom sampleWords ≡ 0 ∷ 3 ∷ 5 ∷ 0 ∷ 0 ∷ []) × (promisedRoom [] ≡ 0 ∷ 7 ∷ 0 ∷ 0 ∷ 0 ∷ [])
-unfolding sampleWords upFrom keep each some sumFrom bit flip force allOn allOnes linesOn wordOf gatesOf gateAt isControl touches step fires run forceAt
-    stuckRun faulty caught sites faultOf stuckFaults caughtBySome uncaughtOf log2In log2 score bestOf best picks siteCount bound compactSet badLines badCounts
-    badGate firstBadGate circuitSetRows circuitRows compactRows firstBadFrom
+unfolding sampleWords upFrom keep each some sumFrom bit flip force allOn allOnes linesOn wordOf gatesOf gateAt isControl touches step fires run
+    forceAt stuckRun faulty caught sites faultOf stuckFaults caughtBySome uncaughtOf log2In log2 score bestOf best picks siteCount bound compactSet
+    badLines badCounts badGate firstBadGate circuitSetRows circuitRows compactRows firstBadFrom
 rooms-are = (refl, refl)
 
 -- they differ, and the first does not begin with 0 twice

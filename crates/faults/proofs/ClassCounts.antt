@@ -1,19 +1,15 @@
 -- How many faults the classes have.
-use Prim.Native.Nat.{ℕ, suc, _+_, _-_, _*_, zero-le}
-use mathlib.Core.Path.{_≡_, refl, sym, ap, ap₂, _∙_}
-use mathlib.Core.Bool.{Bool, not, _&&_}
+use Prim.Native.Nat.{ℕ, suc, _+_, _-_, _*_}
+use mathlib.Core.Path.{_≡_, refl, sym, ap₂, _∙_}
+use mathlib.Core.Bool.{Bool}
 use mathlib.Core.List.{List, [], _∷_}
 use native.Mathlib.Nat.{mul-one, mul-comm}
 use native.Mathlib.Omega.{arith}
 use lib.ListN.{length}
-use lib.Dec.{eqb}
-use borrow.Author.Tests.{eqb-true}
 use Rattle.basics.specs.Lists.{upFrom, keep, each}
 use Rattle.basics.specs.Sums.{sumFrom}
-use Rattle.basics.proofs.Tests.{bool-ext, and-true, and-both}
 use Rattle.basics.proofs.All.{all-at}
-use Rattle.basics.proofs.Lists.{keep-parts, keep-cong, keep-keep, length-each, length-upFrom}
-use Rattle.basics.proofs.ListMore.{count-number}
+use Rattle.basics.proofs.Lists.{keep-parts, length-each, length-upFrom}
 use Rattle.basics.proofs.SumLaws.{sum-cong, sum-add, sum-times, sum-same, length-sum}
 use Rattle.words.specs.Word.{linesOn}
 use Rattle.circuit.specs.Gates.{gateAt, noGate}

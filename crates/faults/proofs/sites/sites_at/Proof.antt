@@ -1,6 +1,5 @@
 -- `faults::sites::sites_at` meets its contract: all lines are sites at the input, and at any other level those that its gate touches. Assumes
 -- nothing.
-use Prim.Native.Nat.{_≤_}
 use mathlib.Core.Path.{_≡_, sym, ap, _∙_}
 use native.Mathlib.Omega.{arith}
 use borrow.Author.Needs.{needs}
