@@ -1,5 +1,5 @@
 -- Laws of sums over numbers that count up.
-use Prim.Native.Nat.{ℕ, zero, suc, _+_, _-_, _*_, _≤_, _<_}
+use Prim.Native.Nat.{ℕ, zero, suc, _+_, _-_, _*_, _≤_, _<_, zero-le}
 use mathlib.Core.Path.{_≡_, refl, sym, ap, ap₂, _∙_}
 use mathlib.Core.List.{List}
 use native.Mathlib.Nat.{le-refl, zero-mul}
@@ -41,6 +41,12 @@ pub sum-same : (c a k : ℕ) → sumFrom (λ i. c) a k ≡ k * c
 unfolding sumFrom
 sum-same c a zero = sym (zero-mul c)
 sum-same c a (suc k) = omega (arith, sum-same c (suc a) k)
+
+-- no term above a number
+pub sum-most : (f : ℕ → ℕ) (c a k : ℕ) → ((i : ℕ) → f i ≤ c) → sumFrom f a k ≤ k * c
+unfolding sumFrom
+sum-most f c a zero h = zero-le
+sum-most f c a (suc k) h = omega (arith, h a, sum-most f c (suc a) k h)
 
 -- the length of a list that is made number by number
 pub length-sum {ℓ} : {B : Type ℓ} (f : ℕ → List B) (a k : ℕ) → length (each f (upFrom a k)) ≡ sumFrom (λ i. length (f i)) a k

@@ -7,4 +7,5 @@ pub mod StepLaws
 pub mod NoControlLaws
 pub mod StopLaws
 pub mod LineLaws
+pub mod UntouchedLaws
 pub mod WordLaws

@@ -1,6 +1,6 @@
--- The controls of a gate.
+-- The controls of a gate, and its lines.
 use Prim.Native.Nat.{ℕ}
-use mathlib.Core.Bool.{Bool, not, _&&_}
+use mathlib.Core.Bool.{Bool, not, _&&_, _||_}
 use lib.Dec.{eqb}
 use Rattle.words.specs.Word.{bit, force}
 use Rattle.words.specs.WordOf.{wordOf}
@@ -19,9 +19,13 @@ lessControl c g = record { controls = force (g .controls) c 0; spare = g .spare;
 unfoldable pub moreControl : ℕ → Gate → Gate
 moreControl a g = record { controls = force (g .controls) a 1; spare = g .spare; target = g .target }
 
+-- line j is a line of the gate: a control or the target
+unfoldable pub touches : Gate → ℕ → Bool
+touches g j = isControl g j || eqb j (g .target)
+
 -- line a is neither a control nor the target
 unfoldable pub isOther : Gate → ℕ → Bool
-isOther g a = not (isControl g a) && not (eqb a (g .target))
+isOther g a = not (touches g a)
 
 -- line c alone stops the gate: it does not fire, and without c as a control it would
 unfoldable pub stops : Gate → ℕ → ℕ → Bool

@@ -4,7 +4,7 @@ ghost use Prim.Native.Nat.{_*_, _<_, _≤_};
 ghost use lib.ListN.{length};
 ghost use Rattle.circuit.specs.Limits.{mostLines};
 ghost use Rattle.circuit.specs.Gates.{gatesOf, gateAt};
-ghost use Rattle.circuit.specs.Controls.{isControl, lessControl, moreControl, isOther, stopping};
+ghost use Rattle.circuit.specs.Controls.{isControl, lessControl, moreControl, touches, isOther, stopping};
 ghost use Rattle.circuit.specs.Runs.{fires, step, forward, onward, backward};
 ghost use Rattle.circuit.specs.Sound.{GateOk, Sound};
 ghost use Rattle.words.specs.WordOf.{wordOf};
@@ -60,6 +60,14 @@ pub fn control_lines(lines: u32, gate: Gate) -> u32
     ensures { λ r. ⌜ r ≡ wordOf lines (isControl gate) ⌝ }
 {
     gate.controls
+}
+
+// The lines of a gate, its controls and its target, as a word.
+pub fn touched_lines(lines: u32, gate: Gate) -> u32
+    requires { ⌜ (lines ≤ mostLines) × GateOk lines gate ⌝ }
+    ensures { λ r. ⌜ r ≡ wordOf lines (touches gate) ⌝ }
+{
+    words::checked::flip(gate.controls, gate.target)
 }
 
 // The lines that are neither a control nor the target of a gate, as a word.

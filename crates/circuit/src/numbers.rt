@@ -61,6 +61,13 @@ pub fn level_made(gate: GateNumber) -> LevelNumber
     LevelNumber(gate.0)
 }
 
+// The gate that makes a level.
+pub fn gate_making(level: LevelNumber) -> GateNumber
+    ensures { λ r. ⌜ r .0 ≡ level .0 ⌝ }
+{
+    GateNumber(level.0)
+}
+
 // The gate that reads a level.
 pub fn gate_after(level: LevelNumber) -> GateNumber
     requires { ⌜ level .0 < mostGates ⌝ }

@@ -10,6 +10,7 @@ pub mod Demand1OfC
 pub mod Machine
 pub mod MachineLaws
 pub mod HasLaws
+pub mod SiteTotals
 pub mod FaultyLaws
 pub mod Valid
 pub mod ValidRows

@@ -1,8 +1,8 @@
 -- The circuit and its faults in the words of docs/SCOPE.md, spelled from the bits of a state and from lists: what the contracts are held against.
 -- Of what they cite it names the structs `Gate` and `Fault`, `All`, and `bit`, which `bit-is` of `Demand2` spells.
-use Prim.Native.Nat.{ℕ, suc, _-_, _^_, _≤_, _<_}
+use Prim.Native.Nat.{ℕ, zero, suc, _+_, _-_, _^_, _≤_, _<_}
 use mathlib.Core.Path.{_≡_}
-use mathlib.Core.Logic.{_↔_, _≢_}
+use mathlib.Core.Logic.{_↔_, _≢_, _⊎_}
 use mathlib.Core.List.{List, [], _∷_, _++_, List·Memᴰ}
 use lib.ListN.{length, getD, take, drop}
 use Rattle.basics.specs.Lists.{All}
@@ -118,9 +118,24 @@ MissedTogether gs fs x = Outputs gs x (StuckRuns fs 0 gs x) _≡_
 
 -- ---- the faults that a circuit of n lines has
 
--- a site is a level and a line
-abbrev pub Site : ℕ → List Gate → ℕ → ℕ → Type 0
-Site n gs i j = (i ≤ length gs) × (j < n)
+-- line j is a line of the gate: a control or the target
+abbrev pub Touches : Gate → ℕ → Type 0
+Touches g j = Control g j ⊎ (j ≡ g .target)
+
+-- a site is level 0 and any line, or level i and a line of gate i
+pub data Site (n : ℕ) (gs : List Gate) (i j : ℕ) : Type 0 where
+  input : i ≡ 0 → j < n → Site n gs i j
+  touched : 1 ≤ i → i ≤ length gs → j < n → Touches (gate gs i) j → Site n gs i j
+
+-- how many of k lines from line a on are 1 in a word
+abbrev pub onesFrom : ℕ → ℕ → ℕ → ℕ
+onesFrom w a zero = 0
+onesFrom w a (suc k) = bit w a + onesFrom w (suc a) k
+
+-- S, the number of sites: n, and the size of each gate, which is the number of its controls and 1
+abbrev pub siteTotal : ℕ → List Gate → ℕ
+siteTotal n [] = n
+siteTotal n (g ∷ gs) = (onesFrom (g .controls) 0 n + 1) + siteTotal n gs
 
 -- fields that a class has no use for are 0
 pub data Has (n : ℕ) (gs : List Gate) (f : Fault) : Type 0 where

@@ -17,9 +17,10 @@ use Rattle.basics.proofs.ListMore.{count-number}
 use Rattle.basics.proofs.SumLaws.{sum-cong, sum-add, sum-times, sum-same, length-sum}
 use Rattle.words.specs.Word.{linesOn}
 use Rattle.circuit.specs.Gates.{gateAt, noGate}
-use Rattle.circuit.specs.Controls.{isControl, isOther}
+use Rattle.circuit.specs.Controls.{isControl, touches, isOther}
 use Rattle.circuit.specs.Sound.{GateOk, AllOk}
 use Rattle.circuit.specs.declared.Gate.{Gate}
+use Rattle.circuit.proofs.LineLaws.{touched-count}
 use Rattle.faults.specs.Sites.{sites}
 use Rattle.faults.specs.declared.Fault.{Fault}
 use Rattle.faults.specs.Classes.{faultOf, stuckFaults, missingGates, missingControls, extraControls}
@@ -46,22 +47,7 @@ length-missing-gates gs =
 
 lines-parts : (n : ℕ) (g : Gate) → GateOk n g → length (keep (isControl g) (upFrom 0 n)) + length (keep (isOther g) (upFrom 0 n)) ≡ n - 1
 unfolding isOther
-lines-parts n g ok =
-    let free : ℕ → Bool = λ a. not (isControl g a) in
-    let at : ℕ → Bool = λ a. eqb a (g .target) in
-    let alone : keep (λ a. free a && at a) (upFrom 0 n) ≡ keep at (upFrom 0 n) = keep-cong (λ a. bool-ext
-    (λ t. and-both (free a) (at a) t .1)
-    (λ t. and-true (ap (λ b. not (isControl g b)) (eqb-true a (g .target) t) ∙ ap not (ok .apart)) t)) (upFrom 0 n) in
-    let one : length (keep (λ a. free a && at a) (upFrom 0 n)) ≡ 1 = ap length alone ∙ count-number (g .target) 0 n zero-le (omega arith) in
-    let split : length (keep at (keep free (upFrom 0 n))) + length (keep (λ a. not (at a)) (keep free (upFrom 0 n))) ≡ length
-    (keep free (upFrom 0 n)) = keep-parts at (keep free (upFrom 0 n)) in
-    omega (
-      arith,
-      keep-parts (isControl g) (upFrom 0 n),
-      length-upFrom 0 n,
-      ap length (keep-keep free at (upFrom 0 n)),
-      ap length (keep-keep free (λ a. not (at a)) (upFrom 0 n)),
-    )
+lines-parts n g ok = omega (arith, touched-count n g ok, keep-parts (touches g) (upFrom 0 n), length-upFrom 0 n)
 
 -- one fault for each line below n that passes the gate's test
 length-by-gate : (n d : ℕ) (make : ℕ → ℕ → Fault) (test : ℕ → ℕ → Bool)

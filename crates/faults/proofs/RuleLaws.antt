@@ -22,6 +22,7 @@ use Rattle.faults.specs.Sites.{sites}
 use Rattle.faults.specs.Rules.{isStuckAt, isGate, isMissingGate, isMissingControl, isExtraControl, isFault, faultRows}
 use Rattle.faults.specs.Stuck.{StuckOk}
 use Rattle.faults.specs.declared.Fault.{Fault}
+use Rattle.circuit.proofs.LineLaws.{untouched}
 use Rattle.faults.proofs.SiteLaws.{site-line}
 
 -- gates are numbered from 1 to the last
@@ -99,7 +100,7 @@ module _ (n : ℕ) (gs : List Gate) (f : Fault) where
       let p = gate-in gs (f .place) (w .0) in
       let v = and-both (ltb (f .line) n) _ (w .1) in
       let o = and-both (isOther (gateAt gs (f .place)) (f .line)) (eqb (f .value) 0) (v .1) in
-      (p .0, p .1, ltb-true _ _ (v .0), not-true _ (and-both (not (isControl (gateAt gs (f .place)) (f .line))) _ (o .0) .0))
+      (p .0, p .1, ltb-true _ _ (v .0), untouched (gateAt gs (f .place)) (f .line) (not-true _ (o .0)) .0)
 
   -- the value of a gate fault is 0
   pub missing-gate-value : isMissingGate gs f ≡ true → f .value ≡ 0

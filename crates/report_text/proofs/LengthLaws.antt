@@ -23,7 +23,7 @@ use Rattle.judge.specs.Judging.{caughtBySome, caughtOf, uncaughtOf}
 use Rattle.faults.proofs.ClassLists.{list-one, list-two, list-three, list-four}
 use Rattle.faults.proofs.ClassParts.{all-stuck, all-missing-gates, all-missing-controls, all-extra-controls}
 use Rattle.faults.proofs.ClassCounts.{length-missing-gates, length-controls}
-use Rattle.faults.proofs.SiteCount.{length-stuck}
+use Rattle.faults.proofs.SiteCount.{stuck-sites, site-count-most}
 use Rattle.job.specs.Wanted.{isWanted, wanted}
 use Rattle.report_text.specs.Lines.{spaced, line}
 use Rattle.report_text.specs.Report.{letterOf, shown, firstText, classText, jobLine, classLines, jobText, refusedText, longestReport}
@@ -97,7 +97,7 @@ module _ (n : ℕ) (gs : List Gate) (xs : List ℕ) (lines : n ≤ mostLines) (g
   stuck-line =
       let many : n * suc (length gs) ≤ mostLines * levels = mul-le-mul {n₂ = mostLines} {m₂ = levels} lines (omega arith) in
       class-fits n gs xs 1 5 10 (omega arith)
-      (rw (list-one n gs 1 refl, length-stuck n gs) (omega arith))
+      (rw (list-one n gs 1 refl, stuck-sites n gs) (omega (arith, site-count-most n gs)))
       (omega arith)
       (rw (list-one n gs 1 refl)
       (all-stuck _ n gs (λ i j v a b d. rw (spaced-three i j v)

@@ -3,3 +3,4 @@ pub mod CatchLaws
 pub mod RuleLaws
 pub mod AnswerLaws
 pub mod UnchangedLaws
+pub mod UntouchedLaws

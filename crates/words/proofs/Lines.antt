@@ -66,3 +66,15 @@ force-same-iff s j v h = (
 pub force-other : (s j v : ℕ) → bit s j ≢ v → force s j v ≡ flip s j
 unfolding force
 force-other s j v d = rw (ne-eqb (bit s j) v d)
+
+-- two lines are inverted, or one forced and the other inverted, in either order
+flip-swap : (s j k : ℕ) → k ≢ j → flip (flip s j) k ≡ flip (flip s k) j
+flip-swap s j k d = word-ext-all (flip (flip s j) k) (flip (flip s k) j) (λ i. by-equal j i
+    (λ e. rw (← e, bit-flip-other (flip s j) k j d, bit-flip-same s j, bit-flip-same (flip s k) j, bit-flip-other s k j d))
+    (λ a. rw (bit-flip-other (flip s k) j i a) (by-equal k i
+    (λ e. rw (← e) (bit-flip-same (flip s j) k ∙ ap (λ b. 1 - b) (bit-flip-other s j k (λ q. d (sym q))) ∙ sym (bit-flip-same s k)))
+    (λ b. bit-flip-other (flip s j) k i b ∙ bit-flip-other s j i a ∙ sym (bit-flip-other s k i b)))))
+
+pub force-flip : (s j v k : ℕ) → k ≢ j → flip (force s j v) k ≡ force (flip s k) j v
+unfolding force
+force-flip s j v k d = rw (bit-flip-other s k j d) (by-test (eqb (bit s j) v) (λ t. rw t) (λ t. rw t (flip-swap s j k d)))

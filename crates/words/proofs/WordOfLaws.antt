@@ -41,7 +41,7 @@ pub on-count : (b : Bool) → eqb (count b) 1 ≡ b
 on-count true = refl
 on-count false = refl
 
-bit-count : (w j : ℕ) → bit w j ≡ count (eqb (bit w j) 1)
+pub bit-count : (w j : ℕ) → bit w j ≡ count (eqb (bit w j) 1)
 bit-count w j = by-bit w j (λ e. rw e) (λ e. rw e)
 
 pub on-wordOf : (n : ℕ) (p : ℕ → Bool) (j : ℕ) → j < n → eqb (bit (wordOf n p) j) 1 ≡ p j

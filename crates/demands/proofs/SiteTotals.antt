@@ -1,0 +1,50 @@
+-- The number of sites: what the contracts count is n and the size of each gate, and a class of stuck-at faults has two for each site.
+use Prim.Native.Nat.{ℕ, zero, suc, _+_, _-_, _*_, _≤_}
+use mathlib.Core.Path.{_≡_, refl, sym, ap, ap₂, _∙_, subst}
+use mathlib.Core.List.{List, [], _∷_}
+use native.Mathlib.Nat.{add-comm, add-assoc}
+use native.Mathlib.Omega.{arith}
+use lib.ListN.{length, getD}
+use Rattle.basics.specs.Choice.{count}
+use Rattle.basics.specs.Lists.{upFrom, keep}
+use Rattle.basics.specs.Sums.{sumFrom}
+use Rattle.basics.proofs.Lists.{length-keep}
+use Rattle.basics.proofs.SumLaws.{sum-cong}
+use Rattle.words.proofs.WordOfLaws.{bit-count}
+use Rattle.circuit.specs.Gates.{gateAt, noGate}
+use Rattle.circuit.specs.Controls.{isControl}
+use Rattle.circuit.specs.Sound.{AllOk}
+use Rattle.circuit.specs.declared.Gate.{Gate}
+use Rattle.faults.specs.Sites.{siteCount}
+use Rattle.faults.proofs.SiteCount.{site-count, site-count-least, site-count-most}
+use Rattle.demands.proofs.Machine.{onesFrom, siteTotal}
+
+-- the controls of a gate, counted by their bits
+ones-are : (g : Gate) (a k : ℕ) → onesFrom (g .controls) a k ≡ length (keep (isControl g) (upFrom a k))
+unfolding upFrom isControl
+ones-are g a zero = refl
+ones-are g a (suc k) = ap₂ _+_ (bit-count (g .controls) a) (ones-are g (suc a) k) ∙ sym (length-keep (isControl g) a (upFrom (suc a) k))
+
+-- the sizes of all gates, by their numbers and in their list
+sizes-are : (n : ℕ) (gs : List Gate) (a : ℕ)
+    → n + sumFrom (λ i. length (keep (isControl (getD gs (i - a) noGate)) (upFrom 0 n)) + 1) a (length gs) ≡ siteTotal n gs
+unfolding sumFrom
+sizes-are n [] a = omega arith
+sizes-are n (g ∷ gs) a =
+    let size : Gate → ℕ = λ h. length (keep (isControl h) (upFrom 0 n)) + 1 in
+    let first : size (getD (g ∷ gs) (a - a) noGate) ≡ onesFrom (g .controls) 0 n + 1 =
+    ap (λ k. size (getD (g ∷ gs) k noGate)) (omega arith) ∙ ap (λ k. k + 1) (sym (ones-are g 0 n)) in
+    let rest : sumFrom (λ i. size (getD (g ∷ gs) (i - a) noGate)) (suc a) (length gs) ≡ sumFrom (λ i. size (getD gs (i - suc a) noGate)) (suc a) (length gs) =
+    sum-cong _ _ (suc a) (length gs) (λ i lo hi. ap (λ k. size (getD (g ∷ gs) k noGate)) (omega arith)) in
+    omega (arith, first, rest, sizes-are n gs (suc a))
+
+pub site-total : (n : ℕ) (gs : List Gate) → AllOk n gs → siteCount n gs ≡ siteTotal n gs
+unfolding gateAt
+site-total n gs ok = site-count n gs ok ∙ sizes-are n gs 1
+
+-- at least n, and at most n at each level
+pub total-least : (n : ℕ) (gs : List Gate) → AllOk n gs → n ≤ siteTotal n gs
+total-least n gs ok = omega (arith, site-total n gs ok, site-count-least n gs)
+
+pub total-most : (n : ℕ) (gs : List Gate) → AllOk n gs → siteTotal n gs ≤ n * suc (length gs)
+total-most n gs ok = omega (arith, site-total n gs ok, site-count-most n gs)
