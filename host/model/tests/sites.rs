@@ -128,17 +128,39 @@ fn no_site_in_a_multiple_fault() {
     );
 }
 
-#[test]
-fn as_many_sites_as_are_counted() {
+/// All circuits of two gates on three lines.
+fn small_circuits() -> Vec<Circuit> {
     let gates: Vec<[u32; 3]> = (0..24)
         .map(|number| [number % 8, 0, number / 8])
         .filter(|[controls, _, target]| controls >> target & 1 == 0)
         .collect();
-    for first in &gates {
-        for second in &gates {
-            let circuit = circuit(3, &[*first, *second].concat());
-            assert_eq!(sites(&circuit).len(), circuit.sites());
-            assert_eq!(Fault::all(&circuit, 1).len(), 2 * circuit.sites());
+    let pairs = gates
+        .iter()
+        .flat_map(|first| gates.iter().map(move |second| [*first, *second].concat()));
+    pairs.map(|words| circuit(3, &words)).collect()
+}
+
+#[test]
+fn as_many_sites_as_are_counted() {
+    for circuit in small_circuits() {
+        assert_eq!(sites(&circuit).len(), circuit.sites());
+        assert_eq!(Fault::all(&circuit, 1).len(), 2 * circuit.sites());
+    }
+}
+
+/// So nothing is lost by what is no site.
+#[test]
+fn a_line_stuck_at_no_site_gives_the_outputs_of_its_last_site_before() {
+    for circuit in small_circuits() {
+        for (level, line) in [(1, 0), (1, 1), (1, 2), (2, 0), (2, 1), (2, 2)] {
+            let last = (0..=level).rev().find(|at| circuit.is_site(*at, line));
+            for (input, value) in (0..16).map(|number| (number / 2, number % 2)) {
+                let output = |level| {
+                    let fault = Fault::StuckAt { level, line, value };
+                    fault.faulty_output(&circuit, &circuit.levels(input))
+                };
+                assert_eq!(last.map(output), Some(output(level)));
+            }
         }
     }
 }
