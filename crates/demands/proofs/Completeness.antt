@@ -1,15 +1,22 @@
 -- What a verdict says of a set: complete exactly if every fault of the class is caught by some vector, and else the first that none catches.
-use Prim.Native.Nat.{ℕ}
-use mathlib.Core.Path.{_≡_, refl, sym, subst}
+use Prim.Native.Nat.{ℕ, _*_}
+use mathlib.Core.Path.{_≡_, refl, sym, ap, ap₂, _∙_, subst}
 use mathlib.Core.Logic.{_↔_, _⊎_}
 use mathlib.Core.Logic._⊎_.{inl, inr}
-use mathlib.Core.List.{List, [], _∷_, _++_, List·Memᴰ, List·Memᴰ·head, List·Memᴰ·tail, Memᴰ·append-right}
+use mathlib.Core.List.{List, [], _∷_, _++_, List·Memᴰ, List·Memᴰ·head, List·Memᴰ·tail, List·Memᴰ·not-nil, Memᴰ·append-right}
 use native.Mathlib.Omega.{arith}
 use lib.ListN.{length}
+use Rattle.basics.specs.Lists.{All}
 use Rattle.basics.proofs.Lists.{all-entry}
+use Rattle.circuit.specs.Sound.{AllOk}
 use Rattle.circuit.specs.declared.Gate.{Gate}
 use Rattle.faults.specs.declared.Fault.{Fault}
-use Rattle.demands.proofs.Machine.{Missed, Has}
+use Rattle.faults.proofs.ClassLists.{list-one}
+use Rattle.faults.proofs.SiteCount.{stuck-sites}
+use Rattle.demands.proofs.Machine.{Missed, siteTotal, Has}
+use Rattle.demands.proofs.MachineLaws.{circuit-ok}
+use Rattle.demands.proofs.SiteTotals.{site-total}
+use Rattle.demands.proofs.ClassLaws.{class-is}
 use Rattle.demands.proofs.FaultLists.{Before, Ordered, Class, Kept, CaughtBySome, CaughtByNone, Shows}
 use Rattle.demands.proofs.FaultLists.Before.{by-place, by-line, by-value}
 use Rattle.demands.proofs.FaultLists.Shows.{complete, first}
@@ -48,6 +55,34 @@ not-twice f h (by-line p a) (by-value q l b) = omega arith
 not-twice f h (by-value p l a) (by-place b) = omega arith
 not-twice f h (by-value p l a) (by-line q b) = omega arith
 not-twice f h (by-value p l a) (by-value q m b) = omega arith
+
+-- two lists in order that have the same faults are one
+same-first : (f h : Fault) (fs hs : List Fault) → All (Before f) fs → All (Before h) hs → List·Memᴰ f (h ∷ hs) → List·Memᴰ h (f ∷ fs) → f ≡ h
+same-first f h fs hs o p (List·Memᴰ·head q) there = q
+same-first f h fs hs o p (List·Memᴰ·tail m) (List·Memᴰ·head q) = sym q
+same-first f h fs hs o p (List·Memᴰ·tail m) (List·Memᴰ·tail k) = absurd (not-twice h f (all-entry (Before h) m p) (all-entry (Before f) k o))
+
+not-first : (f k h : Fault) (hs : List Fault) → Before f k → f ≡ h → List·Memᴰ k (h ∷ hs) → List·Memᴰ k hs
+not-first f k h hs b same (List·Memᴰ·head q) =
+    let twice : Before h h = subst (λ y. Before h y) q (subst (λ y. Before y k) same b) in absurd (not-twice h h twice twice)
+not-first f k h hs b same (List·Memᴰ·tail m) = m
+
+same-list : (fs hs : List Fault) → Ordered fs → Ordered hs → ((k : Fault) → List·Memᴰ k fs → List·Memᴰ k hs)
+    → ((k : Fault) → List·Memᴰ k hs → List·Memᴰ k fs) → fs ≡ hs
+same-list [] [] o p there back = refl
+same-list [] (h ∷ hs) o p there back = absurd (List·Memᴰ·not-nil (back h (List·Memᴰ·head refl)))
+same-list (f ∷ fs) [] o p there back = absurd (List·Memᴰ·not-nil (there f (List·Memᴰ·head refl)))
+same-list (f ∷ fs) (h ∷ hs) o p there back =
+    let same = same-first f h fs hs (o .0) (p .0) (there f (List·Memᴰ·head refl)) (back h (List·Memᴰ·head refl)) in
+    ap₂ _∷_ same (same-list fs hs (o .1) (p .1)
+    (λ k m. not-first f k h hs (all-entry (Before f) m (o .0)) same (there k (List·Memᴰ·tail m)))
+    (λ k m. not-first h k f fs (all-entry (Before h) m (p .0)) (sym same) (back k (List·Memᴰ·tail m))))
+
+-- so the faults of a class are one list
+pub class-same : {n : ℕ} {gs : List Gate} {class : ℕ} {fs hs : List Fault} → Class n gs class fs → Class n gs class hs → fs ≡ hs
+class-same {fs = fs} {hs = hs} a b = same-list fs hs (a .ordered) (b .ordered)
+    (λ k m. let is = all-entry _ m (a .each-is) in b .has-all k (is .0) (is .1))
+    (λ k m. let is = all-entry _ m (b .each-is) in a .has-all k (is .0) (is .1))
 
 -- what comes before an entry stands before it
 stands-before : (before : List Fault) (f : Fault) (later : List Fault) → Ordered (before ++ (f ∷ later))
@@ -133,3 +168,12 @@ module _ {n : ℕ} {words xs : List ℕ} {class : ℕ} {values : List ℕ} (w : 
         number-is = cc;
         total-is = cc;
       }
+
+  -- and the stuck-at faults are two for each site
+  pub total-means : class ≡ 1 → (number total : ℕ) (rest : List ℕ) → values ≡ number ∷ total ∷ rest → total ≡ 2 * siteTotal n gs
+  total-means one number total rest e =
+      let counted = counts-mean number total rest e in
+      let ok : AllOk n gs = circuit-ok n words gs (w .circuit) in
+      let theirs : Class n gs 1 (counted .faults) = subst (λ k. Class n gs k (counted .faults)) one (counted .of-class) in
+      counted .total-is ∙ ap length (class-same theirs (class-is n gs ok 1) ∙ list-one n gs 1 refl) ∙ stuck-sites n gs
+      ∙ ap (λ m. 2 * m) (site-total n gs ok)

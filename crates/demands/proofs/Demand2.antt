@@ -2,7 +2,7 @@
 -- class has its condition for that; complete means exactly that all faults of the class are caught, and otherwise the first uncaught fault and true
 -- counts are shown. What each call answers stands in `Runs`, `Catching`, `Testing`, `Judging`, `Covering` and `Dropping`, in the words of
 -- `Machine` and `FaultLists`; here stand the sentences of the demand that follow.
-use Prim.Native.Nat.{ℕ, suc, _-_, _/_, _%_, _^_, _≤_}
+use Prim.Native.Nat.{ℕ, suc, _-_, _*_, _/_, _%_, _^_, _≤_}
 use mathlib.Core.Path.{_≡_, refl, ap, subst}
 use mathlib.Core.Logic.{_↔_, _⊎_}
 use mathlib.Core.List.{List, [], _∷_}
@@ -32,7 +32,7 @@ use Rattle.nufsadeem.proofs.nuf_catches.Reads as c-catches
 use Rattle.nufsadeem.proofs.nuf_catches_multiple.Reads as c-catches-multiple
 use Rattle.nufsadeem.proofs.judging.nuf_judge.Reads as c-judge
 use Rattle.nufsadeem.proofs.judging.nuf_cover.Reads as c-cover
-use Rattle.demands.proofs.Machine.{Control, Makes, gate, Circuit, Caught, CaughtTogether, Has, records, Multiple}
+use Rattle.demands.proofs.Machine.{Control, Makes, gate, Circuit, Caught, CaughtTogether, siteTotal, Has, records, Multiple}
 use Rattle.demands.proofs.Answering.{Answers, Ended}
 use Rattle.demands.proofs.InC.{toldBy, tells-answer, told-in-c, AnswersInC}
 use Rattle.demands.proofs.Runs.{RunsForward, forward-means, forward-in-c, level-none, level-more, back-again, forth-again}
@@ -40,7 +40,7 @@ use Rattle.demands.proofs.Catching.{TellsCaught, TellsCaughtTogether, c
 use Rattle.demands.proofs.Catching.{catches-multiple-means, catches-multiple-in-c}
 use Rattle.demands.proofs.Conditions.{Conditions, conditions, one-or-zero, told-caught, told-together}
 use Rattle.demands.proofs.Judging.{Judges, judge-means, judge-in-c, cover-means, cover-in-c}
-use Rattle.demands.proofs.Completeness.{EveryCaught, FirstUncaught, Counted, only-told, complete-means, first-means, counts-mean}
+use Rattle.demands.proofs.Completeness.{EveryCaught, FirstUncaught, Counted, only-told, complete-means, first-means, counts-mean, total-means}
 use Rattle.demands.proofs.Demand1OfC as refusing-in-c
 
 -- ---- a gate, over bits: what `Makes` says; that a run does this is `gate-makes-level`
@@ -238,6 +238,8 @@ pub record CompleteExactly (n : ℕ) (words xs : List ℕ) (class : ℕ) (values
       → FirstUncaught n gs class xs f
   -- the counts are true
   pub by-number : (number total : ℕ) (rest : List ℕ) → values ≡ number ∷ total ∷ rest → Counted n gs class xs number total
+  -- and there are two stuck-at faults for each site
+  pub by-sites : class ≡ 1 → (number total : ℕ) (rest : List ℕ) → values ≡ number ∷ total ∷ rest → total ≡ 2 * siteTotal n gs
 
 complete-exactly : {n : ℕ} {words xs : List ℕ} {class : ℕ} {values : List ℕ} → Judges n words xs class values
     → CompleteExactly n words xs class values
@@ -248,6 +250,7 @@ complete-exactly w = record {
   by-all = complete-means w;
   by-first = first-means w;
   by-number = counts-mean w;
+  by-sites = total-means w;
 }
 
 pub judge-exactly : Answers judge.Post (λ κs. toldVerdict)

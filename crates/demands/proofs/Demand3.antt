@@ -1,10 +1,10 @@
 -- Demand 3, over the contracts: where `compact_set` answers, which is for each valid circuit of at most 12 lines with room for the bound
 -- (`compact-set-takes` of `Accepting`), its set catches every single stuck-at fault and every multiple one of 1 to 256 entries; each pick is the
 -- input that catches the most of what is left, the smallest on a tie; and there are at most 2 + floor(log2 S) of them.
-use Prim.Native.Nat.{ℕ, suc, _+_, _*_, _^_, _≤_, _<_}
+use Prim.Native.Nat.{ℕ, suc, _+_, _^_, _≤_, _<_}
 use mathlib.Core.Path.{_≡_, sym, _∙_}
 use mathlib.Core.List.{List, [], _∷_, List·Memᴰ}
-use lib.ListN.{length, take}
+use lib.ListN.{take}
 use denote.Ref.{now}
 use Rattle.refusals.specs.Tables.{firstOf}
 use Rattle.refusals.specs.Tables.Told.{answered}
@@ -19,7 +19,7 @@ use Rattle.simulator.proofs.catches.Reads as catches
 use Rattle.multiple_faults.proofs.catches_multiple.Reads as catches-multiple
 use Rattle.testsets.specs.Answers.{toldMade}
 use Rattle.testsets.proofs.compact_set.Reads as compact-set
-use Rattle.demands.proofs.Machine.{Circuit, CaughtTogether, Multiple}
+use Rattle.demands.proofs.Machine.{Circuit, CaughtTogether, siteTotal, Multiple}
 use Rattle.demands.proofs.FaultLists.{Class, Picks}
 use Rattle.demands.proofs.Completeness.{EveryCaught}
 use Rattle.demands.proofs.SetsCatch.{compact-single, compact-multiple, compact-few, compact-picks, compact-catches, compact-together}
@@ -32,10 +32,10 @@ Lent n words m others = (m ≡ n) × (others ≡ words)
 
 -- ---- what is said of a set that was written for a circuit of n lines
 
--- S is n (d + 1), and there are at most 2 + floor(log2 S) vectors
+-- S is the number of sites, and there are at most 2 + floor(log2 S) vectors
 abbrev pub AtMost : ℕ → List ℕ → ℕ → Type 0
 AtMost n words k = (gs : List Gate) × Circuit n words gs
-    × ((log : ℕ) × (2 ^ log ≤ n * suc (length gs)) × (n * suc (length gs) < 2 ^ suc log) × (k ≤ 2 + log))
+    × ((log : ℕ) × (2 ^ log ≤ siteTotal n gs) × (siteTotal n gs < 2 ^ suc log) × (k ≤ 2 + log))
 
 -- each is the smallest input that catches the most of the stuck-at faults that those before it leave, and at least half; none is left in the end
 abbrev pub ByTheRule : ℕ → List ℕ → List ℕ → Type 0

@@ -35,7 +35,7 @@ use Rattle.demands.proofs.MachineLaws.{runs-run, runs-is, stuck-stuck, 
 -- ---- outputs compared: a faulty circuit gives one output, and it is the good one or not
 
 module _ (gs : List Gate) (x : ℕ) (Faulty : ℕ → Type 0) (output : ℕ) (is : Faulty output) (one : (t : ℕ) → Faulty t → t ≡ output) where
-  differ-means : (not (eqb output (run gs x)) ≡ true) ↔ Outputs gs x Faulty _≢_
+  pub differ-means : (not (eqb output (run gs x)) ≡ true) ↔ Outputs gs x Faulty _≢_
   differ-means = (
     λ t. record { bad = output; good = run gs x; bad-is = is; good-is = runs-run gs x; compared = not-eqb-iff output (run gs x) .0 t },
     λ w. not-eqb-iff output (run gs x) .1 (λ e. w .compared (one (w .bad) (w .bad-is) ∙ e ∙ sym (runs-is gs x (w .good) (w .good-is)))),

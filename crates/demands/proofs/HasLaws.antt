@@ -43,7 +43,7 @@ touches-iff g j = (
     by-either (inr at) = ap (λ b. isControl g j || b) (eq-eqb j (g .target) at) ∙ or-true (isControl g j)
 
 module _ (n : ℕ) (gs : List Gate) where
-  site-of : (i j : ℕ) → i ≤ length gs → j < n → eqb (bit (sites n gs i) j) 1 ≡ true → Site n gs i j
+  pub site-of : (i j : ℕ) → i ≤ length gs → j < n → eqb (bit (sites n gs i) j) 1 ≡ true → Site n gs i j
   unfolding gateAt noGate
   site-of zero j hi h on = input refl h
   site-of (suc i) j hi h on =
@@ -129,7 +129,6 @@ module _ (n : ℕ) (gs : List Gate) (f : Fault) where
       (and-true (ap not (by-test (touches g (f .line)) (λ o. absurd (neither (touches-iff g (f .line) .0 o))) (λ o. o))) (eq-eqb (f .value) 0 v)))
     where
       neither : Touches (gateAt gs (f .place)) (f .line) → ⊥
-      unfolding gateAt noGate
       neither (inl on) = c on
       neither (inr at) = t at
 

@@ -40,6 +40,7 @@ pub mod Demand2
 pub mod SetsCatch
 pub mod Demand3
 pub mod Demand3OfC
+pub mod AnyLine
 pub mod WrongPrograms
 pub mod WrongProgramsOfC
 pub mod RuleWords

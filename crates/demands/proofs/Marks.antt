@@ -8,7 +8,7 @@ use native.Mathlib.Omega.{arith}
 use lib.ListN.{length, getD}
 use lib.Dec.{eqb}
 use borrow.Author.Tests.{eq-eqb, ne-eqb, eqb-true, le-leb}
-use Rattle.basics.proofs.Tests.{by-test, by-equal, or-left, or-right}
+use Rattle.basics.proofs.Tests.{by-test, by-equal, and-both, or-left, or-right}
 use Rattle.basics.proofs.All.{all-map}
 use Rattle.words.specs.Word.{bit}
 use Rattle.words.proofs.OrLaws.{on-or}
@@ -17,6 +17,7 @@ use Rattle.circuit.specs.Sound.{Sound}
 use Rattle.circuit.specs.declared.Gate.{Gate}
 use Rattle.faults.specs.declared.Fault.{Fault}
 use Rattle.faults.specs.Classes.{classFaults}
+use Rattle.faults.specs.Rules.{isFault}
 use Rattle.judge.specs.Judging.{caughtBySome, verdict}
 use Rattle.marking.specs.Marks.{marked}
 use Rattle.judge.specs.Coverages.{withVector, withAll, isMarked}
@@ -28,7 +29,7 @@ use Rattle.demands.proofs.Machine.{Circuit, Caught, Has}
 use Rattle.demands.proofs.Machine.Has.{stuck-at as has-stuck, missing-gate as has-gate, missing-control as has-control}
 use Rattle.demands.proofs.Machine.Has.{extra-control as has-extra}
 use Rattle.demands.proofs.MachineLaws.{circuit-is}
-use Rattle.demands.proofs.HasLaws.{of-has}
+use Rattle.demands.proofs.HasLaws.{has-of, of-has}
 use Rattle.demands.proofs.FaultLists.{Class, CaughtBySome, CaughtByNone, Verdict}
 use Rattle.demands.proofs.ClassLaws.{class-is}
 use Rattle.demands.proofs.VerdictLaws.{Decides, decides-some, toldOf, verdict-is}
@@ -64,12 +65,14 @@ pub record Counts (n : ℕ) (words : List ℕ) (c : Coverage) (class : ℕ) (val
   pub of-class : Class n gs class faults
   pub verdict : Verdict (Marked c) (Unmarked c) faults values
 
--- a vector added: of the faults that the circuit has those are marked that were or that it catches, and no mark goes
+-- a vector added: of the faults that the circuit has those are marked that were or that it catches; no mark goes, and none comes where the circuit
+-- has no fault
 pub record Adds (n : ℕ) (words : List ℕ) (x : ℕ) (old new : Coverage) : Type 0 where
   pub gs : List Gate
   pub circuit : Circuit n words gs
   pub marks : Full old → (f : Fault) → Has n gs f → Marked new f ↔ (Marked old f ⊎ Caught gs f x)
   pub keeps : (f : Fault) → Marked old f → Marked new f
+  pub only : Full old → (f : Fault) → Marked new f → Marked old f ⊎ Has n gs f
   pub full : Full old → Full new
 
 -- ---- the promised coverage is so
@@ -169,12 +172,30 @@ module _ (n : ℕ) (words : List ℕ) (x : ℕ) (c : Coverage) (ok : Sound n wor
   caught-one : (f : Fault) → CaughtBySome its (x ∷ []) f → Caught its f x
   caught-one f w = subst (Caught its f) (List·Memᴰ·eq-of-singleton (w .1)) (w .2)
 
-  newly : Full c → (f : Fault) → Has n its f → Marked new f ↔ (Marked c f ⊎ Caught its f x)
+  marks-are : Full c → (f : Fault) → isMarked new f ≡ (isMarked c f || (isFault n its f && caughtBySome its (x ∷ []) f))
   unfolding withAll
-  newly w f h =
+  marks-are w f =
       let sized : Sized c = record { stuck-0 = w .levels-0; stuck-1 = w .levels-1; gates = w .gates; controls = w .controls; extras = w .extras } in
+      mark-mean n words ok (x ∷ []) c sized f
+
+  -- a mark of the new one that stood in the old one
+  old-mark : (f : Fault) → Marked new f → isMarked c f ≡ true → Marked c f
+  old-mark f (stuck-at-0 e v m) t = stuck-at-0 e v (eqb-true _ 1 (sym (is-0 c f e v) ∙ t))
+  old-mark f (stuck-at-1 e v m) t = stuck-at-1 e v (eqb-true _ 1 (sym (is-1 c f e v) ∙ t))
+  old-mark f (missing-gate e lo v m) t = missing-gate e lo v (eqb-true _ 1 (sym (is-2 c f e lo v) ∙ t))
+  old-mark f (missing-control e lo v m) t = missing-control e lo v (eqb-true _ 1 (sym (is-3 c f e lo v) ∙ t))
+  old-mark f (extra-control e lo v m) t = extra-control e lo v (eqb-true _ 1 (sym (is-4 c f e lo v) ∙ t))
+
+  only-faults : Full c → (f : Fault) → Marked new f → Marked c f ⊎ Has n its f
+  only-faults w f m = by-test (isMarked c f) (λ t. inl (old-mark f m t)) (λ t.
+      let added : isFault n its f && caughtBySome its (x ∷ []) f ≡ true =
+      ap (λ b. b || (isFault n its f && caughtBySome its (x ∷ []) f)) (sym t) ∙ sym (marks-are w f) ∙ marked-true new f m in
+      inr (has-of n its f (and-both (isFault n its f) _ added .0)))
+
+  newly : Full c → (f : Fault) → Has n its f → Marked new f ↔ (Marked c f ⊎ Caught its f x)
+  newly w f h =
       let mean : isMarked new f ≡ (isMarked c f || caughtBySome its (x ∷ []) f) =
-      mark-mean n words ok (x ∷ []) c sized f ∙ ap (λ is. isMarked c f || (is && caughtBySome its (x ∷ []) f)) (of-has n its f h) in
+      marks-are w f ∙ ap (λ is. isMarked c f || (is && caughtBySome its (x ∷ []) f)) (of-has n its f h) in
       let some = decides-some n its (x ∷ []) f h in (
         λ m. by-test (isMarked c f)
             (λ t. inl (true-marked c f n its h t))
@@ -189,7 +210,7 @@ module _ (n : ℕ) (words : List ℕ) (x : ℕ) (c : Coverage) (ok : Sound n wor
           true-marked new f n its h (mean ∙ or-right (isMarked c f) (some .passes .1 (x, List·Memᴰ·head refl, k)))
 
   pub adds : Adds n words x c new
-  adds = record { gs = its; circuit = circuit-is n words ok; marks = newly; keeps = all-kept; full = still-full }
+  adds = record { gs = its; circuit = circuit-is n words ok; marks = newly; keeps = all-kept; only = only-faults; full = still-full }
 
 pub counts : (n : ℕ) (words : List ℕ) (c : Coverage) (class : ℕ) → Sound n words
     → Counts n words c class (toldOf (isMarked c) (classFaults n (gatesOf words) class))

@@ -1,5 +1,5 @@
 -- What the two calls that make a set answer, and what they leave in the room: the backward set, and the compact set with its picks and its bound.
-use Prim.Native.Nat.{ℕ, suc, _+_, _-_, _*_, _^_, _≤_, _<_}
+use Prim.Native.Nat.{ℕ, suc, _+_, _-_, _^_, _≤_, _<_}
 use mathlib.Core.Path.{_≡_, refl, sym, ap, _∙_, subst}
 use mathlib.Core.Bool.{true}
 use mathlib.Core.List.{List, [], _∷_, _++_, map, List·Memᴰ}
@@ -29,7 +29,7 @@ use Rattle.faults.specs.Sites.{siteCount}
 use Rattle.testsets.specs.Rules.{backwardRows, compactRows}
 use Rattle.testsets.specs.Answers.{toldMade}
 use Rattle.testsets.proofs.Log2Laws.{log2-lt, log2-le}
-use Rattle.faults.proofs.SiteCount.{site-count, site-count-some}
+use Rattle.faults.proofs.SiteCount.{site-count-some}
 use Rattle.testsets.proofs.RuleLaws.{backward-ok, compact-ok}
 use Rattle.testsets.proofs.Picks.{few-faults, compact-complete, compact-few, compact-lt}
 use Rattle.testsets.proofs.BackwardLaws.{backward-input-level, backward-complete, backward-length, backward-lts}
@@ -37,7 +37,8 @@ use Rattle.testsets.proofs.backward_set.Reads as backward-set
 use Rattle.testsets.proofs.compact_set.Reads as compact-set
 use Rattle.nufsadeem.proofs.nuf_backward_set.Reads as c-backward-set
 use Rattle.nufsadeem.proofs.nuf_compact_set.Reads as c-compact-set
-use Rattle.demands.proofs.Machine.{Level, Circuit}
+use Rattle.demands.proofs.Machine.{Level, Circuit, siteTotal}
+use Rattle.demands.proofs.SiteTotals.{site-total}
 use Rattle.demands.proofs.MachineLaws.{runs-is, circuit-is}
 use Rattle.demands.proofs.FaultyLaws.{caught-means}
 use Rattle.demands.proofs.FaultLists.{Class, Picks}
@@ -70,7 +71,8 @@ pub record MakesBackward (n : ℕ) (words room values exit : List ℕ) : Type 0 
   pub one-a-gate : length later ≡ length gs
   pub inverse : (i s t : ℕ) → 1 ≤ i → i ≤ length gs → Level gs i 0 s → Level gs i (getD later (i - 1) 0) t → (j : ℕ) → j < n → bit t j ≡ 1 - bit s j
 
--- of at most 12 lines: the best input for what is left, again and again; at most 2 + floor(log2 S) of them, where S = n (d + 1)
+-- of at most 12 lines: the best input for what is left, again and again; at most 2 + floor(log2 S) of them, where S is the number of
+-- sites
 pub record MakesCompact (n : ℕ) (words room values exit : List ℕ) : Type 0 where
   pub gs : List Gate
   pub circuit : Circuit n words gs
@@ -81,8 +83,8 @@ pub record MakesCompact (n : ℕ) (words room values exit : List ℕ) : Type 0 w
   pub stuck-at : Class n gs 1 faults
   pub picked : Picks n gs faults set
   pub log : ℕ
-  pub log-below : 2 ^ log ≤ n * suc (length gs)
-  pub log-above : n * suc (length gs) < 2 ^ suc log
+  pub log-below : 2 ^ log ≤ siteTotal n gs
+  pub log-above : siteTotal n gs < 2 ^ suc log
   pub few : length set ≤ 2 + log
   pub room-for : 2 + log ≤ length room
 
@@ -154,8 +156,8 @@ module _ (n : ℕ) (words room exit : List ℕ) where
         stuck-at = theirs;
         picked = picks-are n its ok (bound n its) (stuckFaults n its) (theirs .each-is) (few-faults n its);
         log = log2 S;
-        log-below = subst (λ m. 2 ^ log2 S ≤ m) (site-count n its) (log2-le S (site-count-some n words (w .circuit)));
-        log-above = subst (λ m. m < 2 ^ suc (log2 S)) (site-count n its) (log2-lt S);
+        log-below = subst (λ m. 2 ^ log2 S ≤ m) (site-total n its ok) (log2-le S (site-count-some n words (w .circuit)));
+        log-above = subst (λ m. m < 2 ^ suc (log2 S)) (site-total n its ok) (log2-lt S);
         few = most;
         room-for = w .room-fits;
       }

@@ -21,7 +21,7 @@ use Rattle.demands.proofs.Machine.{onesFrom, siteTotal}
 
 -- the controls of a gate, counted by their bits
 ones-are : (g : Gate) (a k : ℕ) → onesFrom (g .controls) a k ≡ length (keep (isControl g) (upFrom a k))
-unfolding upFrom isControl
+unfolding upFrom keep isControl
 ones-are g a zero = refl
 ones-are g a (suc k) = ap₂ _+_ (bit-count (g .controls) a) (ones-are g (suc a) k) ∙ sym (length-keep (isControl g) a (upFrom (suc a) k))
 
@@ -32,10 +32,12 @@ unfolding sumFrom
 sizes-are n [] a = omega arith
 sizes-are n (g ∷ gs) a =
     let size : Gate → ℕ = λ h. length (keep (isControl h) (upFrom 0 n)) + 1 in
+    let none : a - a ≡ 0 = omega arith in
     let first : size (getD (g ∷ gs) (a - a) noGate) ≡ onesFrom (g .controls) 0 n + 1 =
-    ap (λ k. size (getD (g ∷ gs) k noGate)) (omega arith) ∙ ap (λ k. k + 1) (sym (ones-are g 0 n)) in
+    ap (λ k. size (getD (g ∷ gs) k noGate)) none ∙ ap (λ k. k + 1) (sym (ones-are g 0 n)) in
     let rest : sumFrom (λ i. size (getD (g ∷ gs) (i - a) noGate)) (suc a) (length gs) ≡ sumFrom (λ i. size (getD gs (i - suc a) noGate)) (suc a) (length gs) =
-    sum-cong _ _ (suc a) (length gs) (λ i lo hi. ap (λ k. size (getD (g ∷ gs) k noGate)) (omega arith)) in
+    sum-cong _ _ (suc a) (length gs) (λ i lo hi.
+    let next : i - a ≡ suc (i - suc a) = omega arith in ap (λ k. size (getD (g ∷ gs) k noGate)) next) in
     omega (arith, first, rest, sizes-are n gs (suc a))
 
 pub site-total : (n : ℕ) (gs : List Gate) → AllOk n gs → siteCount n gs ≡ siteTotal n gs

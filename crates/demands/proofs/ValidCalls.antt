@@ -3,7 +3,6 @@ use Prim.Native.Nat.{ℕ, suc, _+_, _*_, _^_, _≤_, _<_}
 use mathlib.Core.Path.{_≡_, sym, ap, _∙_, subst}
 use mathlib.Core.Logic.{_↔_, Iff·trans, Iff·and, by-cases}
 use mathlib.Core.List.{List, [], _∷_, _++_}
-use native.Mathlib.Nat.{mul-le-mul}
 use native.Mathlib.Decide.{decLe}
 use native.Mathlib.Omega.{arith}
 use lib.Pow.{pow-mono}
@@ -26,15 +25,16 @@ use Rattle.faults.specs.Sites.{siteCount}
 use Rattle.testsets.specs.Sets.{bound}
 use Rattle.testsets.specs.Rules.{backwardRows, compactRows}
 use Rattle.testsets.proofs.Log2Laws.{log2-lt, log2-le}
-use Rattle.faults.proofs.SiteCount.{site-count}
-use Rattle.demands.proofs.Machine.{Has}
-use Rattle.demands.proofs.MachineLaws.{gates-flat}
+use Rattle.faults.proofs.SiteCount.{site-count-least}
+use Rattle.demands.proofs.Machine.{Has, siteTotal}
+use Rattle.demands.proofs.MachineLaws.{gates-flat, circuit-ok}
+use Rattle.demands.proofs.SiteTotals.{site-total}
 use Rattle.demands.proofs.Valid.{Valid, circuit-valid}
 use Rattle.demands.proofs.ValidRows.{Fine, joined, one-rule, vector-valid, level-valid, class-valid, set-valid, fault-valid}
 
--- log is floor(log2 S), where S = n (d + 1)
+-- log is floor(log2 S), where S is the number of sites
 abbrev pub IsLog : ℕ → List Gate → ℕ → Type 0
-IsLog n gs log = (2 ^ log ≤ n * suc (length gs)) × (n * suc (length gs) < 2 ^ suc log)
+IsLog n gs log = (2 ^ log ≤ siteTotal n gs) × (siteTotal n gs < 2 ^ suc log)
 
 module _ (n : ℕ) (words : List ℕ) where
   -- the gates of a valid circuit are those of its words
@@ -114,12 +114,12 @@ module _ (n : ℕ) (words : List ℕ) where
       (Iff·trans (one-rule (ltb room (length (gatesOf words) + 2)) 10 0)
       (ltb-false room (length (gatesOf words) + 2), le-ltb room (length (gatesOf words) + 2)))
 
-  its-log : (gs : List Gate) → 1 ≤ n → IsLog n gs (log2 (siteCount n gs))
-  its-log gs some =
+  its-log : (gs : List Gate) → Valid n words gs → IsLog n gs (log2 (siteCount n gs))
+  its-log gs v =
       let S : ℕ = siteCount n gs in
-      let least : 1 * 1 ≤ n * suc (length gs) = mul-le-mul {m₁ = 1} some (omega arith) in (
-        subst (λ m. 2 ^ log2 S ≤ m) (site-count n gs) (log2-le S (omega (arith, site-count n gs))),
-        subst (λ m. m < 2 ^ suc (log2 S)) (site-count n gs) (log2-lt S),
+      let total = site-total n gs (circuit-ok n words gs (v .circuit)) in (
+        subst (λ m. 2 ^ log2 S ≤ m) total (log2-le S (omega (arith, site-count-least n gs, v .circuit .some-lines))),
+        subst (λ m. m < 2 ^ suc (log2 S)) total (log2-lt S),
       )
 
   -- there is one such number
@@ -144,9 +144,9 @@ module _ (n : ℕ) (words : List ℕ) where
       ↔ ((gs : List Gate) × Valid n words gs × ((n ≤ 12) × ((log : ℕ) × IsLog n gs log × (2 + log ≤ room))))
   unfolding bound
   compact-valid room = Iff·trans (compact-rooms room) (
-    λ w. (w .0, w .1, (w .2 .0, (log2 (siteCount n (w .0)), its-log (w .0) (w .1 .circuit .some-lines), w .2 .1))),
+    λ w. (w .0, w .1, (w .2 .0, (log2 (siteCount n (w .0)), its-log (w .0) (w .1), w .2 .1))),
     λ w.
         let log = w .2 .1 .0 in
-        let same = log-one (w .0) (log2 (siteCount n (w .0))) log (its-log (w .0) (w .1 .circuit .some-lines)) (w .2 .1 .1) in
+        let same = log-one (w .0) (log2 (siteCount n (w .0))) log (its-log (w .0) (w .1)) (w .2 .1 .1) in
         (w .0, w .1, (w .2 .0, subst (λ k. 2 + k ≤ room) (sym same) (w .2 .1 .2))),
   )

@@ -10,13 +10,14 @@ use denote.Ref.{now}
 use Rattle.basics.specs.Lists.{upFrom, keep, each, some}
 use Rattle.basics.specs.Sums.{sumFrom}
 use Rattle.words.specs.Word.{bit, flip, force, allOn, allOnes, linesOn}
+use Rattle.words.specs.WordOf.{wordOf}
 use Rattle.refusals.specs.Tables.{Told, firstOf, after}
 use Rattle.refusals.specs.Tables.Told.{answered}
 use Rattle.refusals.specs.Places.{firstBadFrom, inWord}
 use Rattle.refusals.specs.declared.Refusal.{Refusal}
 use Rattle.refusals.proofs.Clashes.{refused-answered}
 use Rattle.circuit.specs.Gates.{gatesOf, gateAt, noGate}
-use Rattle.circuit.specs.Controls.{isControl, isOther}
+use Rattle.circuit.specs.Controls.{isControl, touches, isOther}
 use Rattle.circuit.specs.Runs.{fires, step, run}
 use Rattle.circuit.specs.Rules.{badLines, badCounts, badGate, firstBadGate, firstBadVector, circuitSetRows, circuitRows, setRows, vectorRows}
 use Rattle.simulator.specs.Faulty.{forceAt, stuckRun, without, faulty, caught}
@@ -63,11 +64,11 @@ read-is = refl
 abbrev pub promisedVerdict : List ℕ → Told
 promisedVerdict xs = firstOf (judgeRows 3 sampleWords xs 1) (verdict (caughtBySome (gatesOf sampleWords) xs) (classFaults 3 (gatesOf sampleWords) 1))
 
-pub verdicts-are : (promisedVerdict (0 ∷ 7 ∷ []) ≡ answered (15 ∷ 18 ∷ 0 ∷ 1 ∷ 1 ∷ 2 ∷ 0 ∷ []))
-    × (promisedVerdict (0 ∷ []) ≡ answered (9 ∷ 18 ∷ 0 ∷ 1 ∷ 0 ∷ 0 ∷ 0 ∷ []))
-    × (promisedVerdict (0 ∷ 3 ∷ 5 ∷ []) ≡ answered (18 ∷ 18 ∷ 1 ∷ 0 ∷ 0 ∷ 0 ∷ 0 ∷ []))
-unfolding sampleWords upFrom keep each some bit flip force allOn allOnes linesOn gatesOf isControl step fires run forceAt stuckRun faulty caught
-    sites faultOf stuckFaults classFaults isClass caughtBySome verdict badLines badCounts badGate firstBadGate firstBadVector circuitSetRows
+pub verdicts-are : (promisedVerdict (0 ∷ 7 ∷ []) ≡ answered (14 ∷ 16 ∷ 0 ∷ 1 ∷ 1 ∷ 2 ∷ 0 ∷ []))
+    × (promisedVerdict (0 ∷ []) ≡ answered (8 ∷ 16 ∷ 0 ∷ 1 ∷ 0 ∷ 0 ∷ 0 ∷ []))
+    × (promisedVerdict (0 ∷ 3 ∷ 5 ∷ []) ≡ answered (16 ∷ 16 ∷ 1 ∷ 0 ∷ 0 ∷ 0 ∷ 0 ∷ []))
+unfolding sampleWords upFrom keep each some bit flip force allOn allOnes linesOn wordOf gatesOf gateAt isControl touches step fires run forceAt
+    stuckRun faulty caught sites faultOf stuckFaults classFaults isClass caughtBySome verdict badLines badCounts badGate firstBadGate firstBadVector circuitSetRows
     setRows classRows judgeRows firstBadFrom
 verdicts-are = (refl, refl, refl)
 
@@ -101,8 +102,8 @@ promisedRoom words = after (compactRows 3 words (length room))
 
 -- the sample circuit, and the circuit with no gate
 pub rooms-are : (promisedRoom sampleWords ≡ 0 ∷ 3 ∷ 5 ∷ 0 ∷ 0 ∷ []) × (promisedRoom [] ≡ 0 ∷ 7 ∷ 0 ∷ 0 ∷ 0 ∷ [])
-unfolding sampleWords upFrom keep each some sumFrom bit flip force allOn allOnes linesOn gatesOf isControl step fires run forceAt stuckRun faulty
-    caught sites faultOf stuckFaults caughtBySome uncaughtOf log2In log2 score bestOf best picks siteCount bound compactSet badLines badCounts
+unfolding sampleWords upFrom keep each some sumFrom bit flip force allOn allOnes linesOn wordOf gatesOf gateAt isControl touches step fires run forceAt
+    stuckRun faulty caught sites faultOf stuckFaults caughtBySome uncaughtOf log2In log2 score bestOf best picks siteCount bound compactSet badLines badCounts
     badGate firstBadGate circuitSetRows circuitRows compactRows firstBadFrom
 rooms-are = (refl, refl)
 
@@ -182,16 +183,16 @@ pub first-vector-only : (one all : Ended judge.Post) → JudgedBy (0 ∷ []) one
 first-vector-only one all asked-one asked-all r first wrong =
     let same = sym (verdicts-are .1) ∙ sym (judge-promise _ one asked-one) ∙ ap toldVerdict (first ∙ sym wrong) ∙ judge-promise _ all asked-all
     ∙ verdicts-are .2 in
-    let z : _≡_ {A = ℕ} 9 18 = cc in
+    let z : _≡_ {A = ℕ} 8 16 = cc in
     omega arith
 
 -- 6. a picker that chooses well once and then repeats itself: 0 is the best first pick, and again 0 is wrong, whatever follows
 pub repeats-itself : (call : Ended compact-set.Post) → MadeFor sampleWords call → (rest : List ℕ) → roomAfter call ≡ 0 ∷ 0 ∷ rest → ⊥
 repeats-itself call made rest wrong = picks-another (room-promise _ call made) wrong
 
--- 7. a made-up number caught: of the set 0, 7 any number but 15
+-- 7. a made-up number caught: of the set 0, 7 any number but 14
 pub made-up-number : (call : Ended judge.Post) → JudgedBy (0 ∷ 7 ∷ []) call
-    → (number total : ℕ) (first : Fault) → number ≢ 15 → call .result ≡ Left number total first → ⊥
+    → (number total : ℕ) (first : Fault) → number ≢ 14 → call .result ≡ Left number total first → ⊥
 made-up-number call asked number total first other wrong =
     let told = ap toldVerdict (sym wrong) ∙ judge-promise _ call asked ∙ verdicts-are .0 in
     other cc

@@ -83,14 +83,14 @@ pub first-vector-only : (one all : Ended judge.Post) → JudgedBy (0 ∷ []) one
 first-vector-only one all asked-one asked-all wrong =
     let first = judge-promise _ one asked-one ∙ ap (fields 7) (verdicts-are .1) in
     let whole = judge-promise _ all asked-all ∙ ap (fields 7) (verdicts-are .2) in
-    let a : one .result .caught ≡ 9 = cc in
-    let b : all .result .caught ≡ 18 = cc in
+    let a : one .result .caught ≡ 8 = cc in
+    let b : all .result .caught ≡ 16 = cc in
     omega arith
 
 -- 6. a picker that chooses well once and then repeats itself: 0 is the best first pick, and again 0 is wrong, whatever follows
 pub repeats-itself : (call : Ended compact-set.Post) → MadeFor sampleWords call → (rest : List ℕ) → roomAfter call ≡ 0 ∷ 0 ∷ rest → ⊥
 repeats-itself call made rest wrong = picks-another (room-promise _ call made) wrong
 
--- 7. a made-up number caught: of the set 0, 7 any number but 15
-pub made-up-number : (call : Ended judge.Post) → JudgedBy (0 ∷ 7 ∷ []) call → call .result .caught ≢ 15 → ⊥
+-- 7. a made-up number caught: of the set 0, 7 any number but 14
+pub made-up-number : (call : Ended judge.Post) → JudgedBy (0 ∷ 7 ∷ []) call → call .result .caught ≢ 14 → ⊥
 made-up-number call asked wrong = let told = judge-promise _ call asked ∙ ap (fields 7) (verdicts-are .0) in wrong cc

@@ -11,7 +11,7 @@ use Rattle.simulator.specs.Faulty.{caught}
 use Rattle.faults.specs.declared.Fault.{Fault}
 use Rattle.faults.specs.Classes.{faultOf}
 use Rattle.judge.specs.Judging.{setVerdict}
-use Rattle.faults.specs.Sites.{siteCount}
+use Rattle.faults.specs.Sites.{sites, siteCount}
 use Rattle.testsets.specs.Sets.{bound, compactSet, backwardSet}
 use Rattle.proved_samples.specs.Sample.{sample}
 
@@ -51,12 +51,14 @@ table =
     catching (faultOf 3 1 0 0) gives (2 ∷ 6 ∷ []) ∷
     catching (faultOf 4 2 2 0) gives (1 ∷ 7 ∷ []) ∷
     -- sets that are not stuck-at complete, and the first fault that they do not catch
-    judged (0 ∷ 7 ∷ []) gives (15 ∷ 18 ∷ 0 ∷ 1 ∷ 1 ∷ 2 ∷ 0 ∷ []) ∷
-    judged (0 ∷ 7 ∷ 3 ∷ []) gives (17 ∷ 18 ∷ 0 ∷ 1 ∷ 2 ∷ 1 ∷ 0 ∷ []) ∷
+    judged (0 ∷ 7 ∷ []) gives (14 ∷ 16 ∷ 0 ∷ 1 ∷ 1 ∷ 2 ∷ 0 ∷ []) ∷
+    judged (0 ∷ 7 ∷ 3 ∷ []) gives (15 ∷ 16 ∷ 0 ∷ 1 ∷ 2 ∷ 1 ∷ 0 ∷ []) ∷
+    -- the sites of levels 0, 1 and 2, as words of lines
+    (sites 3 sample 0 ∷ sites 3 sample 1 ∷ sites 3 sample 2 ∷ []) gives (7 ∷ 7 ∷ 3 ∷ []) ∷
     -- the backward set; the compact set, the number of sites and the bound
     backwardSet 3 sample gives (0 ∷ 7 ∷ 3 ∷ 5 ∷ []) ∷
     compactSet 3 sample gives (0 ∷ 3 ∷ 5 ∷ []) ∷
-    (siteCount 3 sample ∷ bound 3 sample ∷ []) gives (9 ∷ 5 ∷ []) ∷ []
+    (siteCount 3 sample ∷ bound 3 sample ∷ []) gives (8 ∷ 5 ∷ []) ∷ []
 
 -- every row gives what it says
 abbrev pub same : List ℕ → List ℕ → Bool
