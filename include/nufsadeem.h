@@ -42,8 +42,9 @@
 extern "C" {
 #endif
 
-/* Class 1: the line is stuck at the value, at the level `place`. Classes 2, 3 and 4: the gate `place`, from 1, is missing, lacks
- * the control `line`, or has the control `line` too many. What a class has no use for is 0. */
+/* Class 1: the line is stuck at the value, at the level `place`. Its sites are level 0 with any line, and level i with a line of
+ * gate i, a control or the target. Classes 2, 3 and 4: the gate `place`, from 1, is missing, lacks the control `line`, or has the
+ * control `line` too many. What a class has no use for is 0. */
 typedef struct { uint32_t class_, place, line, value; } nuf_fault;
 
 typedef struct { uint32_t number, place, state; } nuf_run;
@@ -94,8 +95,8 @@ nuf_vector nuf_test_for(uint32_t lines, const uint32_t *gates, size_t gates_len,
 nuf_count nuf_backward_set(uint32_t lines, const uint32_t *gates, size_t gates_len, uint32_t *room, size_t room_len);
 
 /* A small set that catches every stuck line: each vector is the one that catches the most of what is left.
- * Rules 3, 5, 7, 11, 10. Room: 2 words more than the logarithm, to base 2 and rounded down, of lines * (gates + 1). `count` is the
- * number of vectors that were written, and may be less. */
+ * Rules 3, 5, 7, 11, 10. Room: 2 words more than the logarithm, to base 2 and rounded down, of the number of sites: the lines,
+ * and for each gate its controls and 1. `count` is the number of vectors that were written, and may be less. */
 nuf_count nuf_compact_set(uint32_t lines, const uint32_t *gates, size_t gates_len, uint32_t *room, size_t room_len);
 
 /* Drops from a list of words the faults that a vector catches: the others go to the front in their order, zeros fill the rest, and

@@ -1,10 +1,11 @@
 //! Every rule at its border: one below, at it, and one above.
 
 use crate::case::Question;
+use crate::room::{around, compact_room};
 use crate::samples::{sample_gates, LINES};
 use crate::tally::Tally;
 use inputs::{make, Random};
-use model::{compact_bound, export_real, image_of, Job};
+use model::{export_real, image_of, Job};
 use nufsadeem::Circuit;
 
 /// The bytes of the longest text of a circuit, as include/nufsadeem.h has it.
@@ -118,7 +119,8 @@ fn levels(tally: &mut Tally) -> Result<(), String> {
 fn compact_lines(tally: &mut Tally) -> Result<(), String> {
     for lines in 9..=14 {
         let gates = long_gates(lines, 3);
-        for room in [0, 6, 7, 8, 9, 10] {
+        tally.circuit(lines, &gates, Question::CompactSet { room: 0 })?;
+        for room in around(compact_room(lines, &gates)) {
             tally.circuit(lines, &gates, Question::CompactSet { room })?;
         }
     }
@@ -131,7 +133,7 @@ fn rooms(tally: &mut Tally) -> Result<(), String> {
         for room in 0..=depth + 4 {
             tally.circuit(3, &gates, Question::BackwardSet { room })?;
         }
-        for room in 0..=compact_bound(3, depth) + 2 {
+        for room in 0..=compact_room(3, &gates) + 2 {
             tally.circuit(3, &gates, Question::CompactSet { room })?;
         }
     }
@@ -149,9 +151,31 @@ fn rooms(tally: &mut Tally) -> Result<(), String> {
     Ok(())
 }
 
+/// The lines of a gate by its number: four of eight, from another one on at each gate.
+fn four_lines(gate: u32) -> [u32; 4] {
+    [0, 1, 2, 3].map(|more| (gate - 1 + more) % 8)
+}
+
 fn entries(tally: &mut Tally) -> Result<(), String> {
-    let gates = long_gates(8, 40);
-    let sites: Vec<[u32; 4]> = (0..300).map(|s| [1, s / 8, s % 8, s / 3 % 2]).collect();
+    let gate = |number| {
+        let [a, b, c, target] = four_lines(number);
+        [1 << a | 1 << b | 1 << c, 0, target]
+    };
+    let gates: Vec<u32> = (1..=80).flat_map(gate).collect();
+    let of_input = (0..8).map(|line| (0, line));
+    let of_gates = (1..=80).flat_map(|level| four_lines(level).map(|line| (level, line)));
+    let sites: Vec<[u32; 4]> = of_input
+        .chain(of_gates)
+        .zip(0..300)
+        .map(|((level, line), number)| [1, level, line, number / 3 % 2])
+        .collect();
+    let refused = |count: usize| {
+        let told = Circuit::new(8, &gates).catches_multiple(0, &sites[..count].concat());
+        told.err().map(|refusal| refusal.number)
+    };
+    tally.holds(refused(256).is_none() && refused(257) == Some(13), || {
+        "256 sites are not taken, or 257 not refused with 13".to_string()
+    })?;
     for count in [0, 1, 2, 255, 256, 257, 300] {
         let whole = sites[..count].concat();
         multiple(tally, &gates, whole.clone())?;
@@ -161,14 +185,16 @@ fn entries(tally: &mut Tally) -> Result<(), String> {
         for bad in [
             [2, 1, 0, 0],
             [0; 4],
-            [1, 41, 0, 0],
+            [1, 81, 0, 0],
             [1, 0, 8, 0],
             [1, 0, 0, 2],
+            // gate 1 does not touch line 4
+            [1, 1, 4, 0],
         ] {
             multiple(tally, &gates, [&whole[..], &bad].concat())?;
             multiple(tally, &gates, [&bad[..], &whole].concat())?;
         }
-        for again in [[1, 0, 0, 0], [1, 0, 0, 1], [1, 40, 0, 0]] {
+        for again in [[1, 0, 0, 0], [1, 0, 0, 1], [1, 80, 0, 0]] {
             multiple(tally, &gates, [&whole[..], &again].concat())?;
         }
     }
@@ -184,8 +210,8 @@ fn entries(tally: &mut Tally) -> Result<(), String> {
         [sites[..256].concat(), sites[0].to_vec()].concat(),
     )?;
     // one line, opposite values at two levels
-    multiple(tally, &gates, vec![1, 0, 0, 0, 1, 40, 0, 1])?;
-    multiple(tally, &gates, vec![1, 40, 0, 1, 1, 0, 0, 0])
+    multiple(tally, &gates, vec![1, 0, 0, 0, 1, 80, 0, 1])?;
+    multiple(tally, &gates, vec![1, 80, 0, 1, 1, 0, 0, 0])
 }
 
 fn multiple(tally: &mut Tally, gates: &[u32], entries: Vec<u32>) -> Result<(), String> {
@@ -204,7 +230,7 @@ fn lists(tally: &mut Tally) -> Result<(), String> {
         [4, 2, 2, 0],
         [2, 1, 0, 0],
         [3, 1, 1, 0],
-        [1, 2, 2, 1],
+        [1, 2, 1, 1],
         [2, 2, 0, 0],
     ];
     for vector in 0..9 {
@@ -215,6 +241,7 @@ fn lists(tally: &mut Tally) -> Result<(), String> {
                 [2, 1, 1, 0],
                 [3, 1, 0, 1],
                 [1, 3, 0, 0],
+                [1, 2, 2, 1],
             ] {
                 let list = [&sound[..at], &[bad], &sound[at..]].concat().concat();
                 tally.circuit(LINES, &gates, Question::Drop { vector, list })?;
@@ -266,11 +293,17 @@ fn longest_text(tally: &mut Tally) -> Result<(), String> {
 }
 
 /// Every call that takes a circuit, and every call that takes a set.
-fn every_call(tally: &mut Tally, lines: u32, gates: &[u32], vectors: &[u32]) -> Result<(), String> {
+pub fn every_call(
+    tally: &mut Tally,
+    lines: u32,
+    gates: &[u32],
+    vectors: &[u32],
+) -> Result<(), String> {
     let depth = gates.len() / 3;
     let level = depth as u32;
+    let last_target = gates.chunks_exact(3).last().map_or(0, |gate| gate[2]);
     let faults = [
-        [1, level, 0, 1],
+        [1, level, last_target, 1],
         [1, 0, 0, 0],
         [2, level, 0, 0],
         [4, 1, 1, 0],
@@ -295,8 +328,7 @@ fn every_call(tally: &mut Tally, lines: u32, gates: &[u32], vectors: &[u32]) -> 
     for room in [depth + 1, depth + 2, depth + 3] {
         tally.circuit(lines, gates, Question::BackwardSet { room })?;
     }
-    let bound = compact_bound(lines.clamp(1, 32), depth);
-    for room in [bound - 1, bound, bound + 1] {
+    for room in around(compact_room(lines, gates)) {
         tally.circuit(lines, gates, Question::CompactSet { room })?;
     }
     text_calls(tally, lines, gates)?;
@@ -365,10 +397,6 @@ fn job_calls(
         tally.image(Question::Report { bytes, room })?;
     }
     Ok(())
-}
-
-fn around(needed: usize) -> Vec<usize> {
-    vec![needed.saturating_sub(1), needed, needed + 1]
 }
 
 fn long_gates(lines: u32, depth: usize) -> Vec<u32> {

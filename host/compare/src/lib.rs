@@ -8,8 +8,10 @@ mod form;
 mod images;
 mod lent;
 mod longest_report;
+mod room;
 mod rounds;
 mod samples;
+mod sites;
 mod small;
 mod tally;
 mod texts;
@@ -17,11 +19,12 @@ mod texts;
 pub use tally::Tally;
 
 /// Cases that are the same in every run, by subject.
-pub const FIXED: [(&str, Part); 7] = [
+pub const FIXED: [(&str, Part); 8] = [
     ("the samples", samples::compare),
     ("small circuits", small::compare),
     ("damaged images", images::compare),
     ("borders", borders::compare),
+    ("sites", sites::compare),
     ("damaged texts", texts::compare),
     ("the form of a text", form::compare),
     ("the longest report", longest_report::compare),

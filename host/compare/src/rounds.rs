@@ -1,10 +1,11 @@
 //! Random cases. A round draws one circuit and asks every call about it.
 
 use crate::case::Question;
+use crate::room::compact_room;
 use crate::tally::Tally;
 use inputs::make::{self, Drawn};
 use inputs::{damage_text, damaged_text, good_text, Random};
-use model::{compact_bound, export_real, image_of, import_real};
+use model::{export_real, image_of, import_real};
 use nufsadeem::{Circuit, Class};
 
 /// The simulator's compact set runs each fault on each input; larger circuits take too long.
@@ -72,8 +73,7 @@ fn sets(tally: &mut Tally, random: &mut Random, drawn: &Drawn) -> Result<(), Str
     tally.circuit(lines, gates, Question::BackwardSet { room })?;
     let steps = (u64::from(lines) << lines.min(13)) * (gates.len() as u64 + 3).pow(2) / 9;
     if lines > 12 || steps <= MOST_COMPACT_STEPS {
-        let bound = compact_bound(lines.clamp(1, 32), gates.len() / 3);
-        let room = make::room(random, bound);
+        let room = make::room(random, compact_room(lines, gates));
         tally.circuit(lines, gates, Question::CompactSet { room })?;
     }
     Ok(())

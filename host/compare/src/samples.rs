@@ -1,5 +1,5 @@
-//! The samples of docs/SCOPE.md, with the answers that it prints, and texts whose answers are written by hand. Here the simulator
-//! has no say.
+//! The samples of docs/SCOPE.md, with the answers that it prints, and sites and texts whose answers are written by hand. Here the
+//! simulator has no say.
 
 use crate::tally::Tally;
 use inputs::{REAL_SAMPLES, SAMPLE_REAL};
@@ -23,7 +23,7 @@ pub const SAMPLE_IMAGE: [u8; 64] = [
     0x01, 0x00, 0x00, 0x00, 0x00, 0x00, 0x00, 0x00, 0x03, 0x00, 0x00, 0x00, 0x05, 0x00, 0x00, 0x00,
 ];
 
-const SAMPLE_REPORT: &str = "J 3 2 3\nS 18 18 ok\nM 2 2 ok\nC 2 3 1 0\nX 0 1 2 2\n";
+const SAMPLE_REPORT: &str = "J 3 2 3\nS 16 16 ok\nM 2 2 ok\nC 2 3 1 0\nX 0 1 2 2\n";
 
 pub fn compare(tally: &mut Tally) -> Result<(), String> {
     let gates = sample_gates();
@@ -31,6 +31,8 @@ pub fn compare(tally: &mut Tally) -> Result<(), String> {
     runs(tally, circuit)?;
     verdicts(tally, circuit)?;
     catching(tally, circuit)?;
+    no_site(tally, circuit)?;
+    rooms(tally)?;
     jobs(tally)?;
     texts(tally, circuit)?;
     is(
@@ -86,15 +88,15 @@ fn verdicts(tally: &mut Tally, circuit: Circuit) -> Result<(), String> {
         (
             circuit,
             vec![0, 7],
-            15,
-            18,
+            14,
+            16,
             Some(Fault::stuck_at(1, 2, false)),
         ),
         (
             circuit,
             vec![0, 7, 3],
-            17,
-            18,
+            15,
+            16,
             Some(Fault::stuck_at(2, 1, false)),
         ),
         (
@@ -104,6 +106,22 @@ fn verdicts(tally: &mut Tally, circuit: Circuit) -> Result<(), String> {
             2,
             Some(Fault::stuck_at(0, 0, false)),
         ),
+        // 4 + 2 sites, since no gate touches lines 2 and 3
+        (
+            Circuit::new(4, &[1, 0, 1]),
+            vec![0, 15],
+            11,
+            12,
+            Some(Fault::stuck_at(1, 1, false)),
+        ),
+        (
+            Circuit::new(3, &[]),
+            vec![2],
+            3,
+            6,
+            Some(Fault::stuck_at(0, 0, false)),
+        ),
+        (Circuit::new(3, &[]), vec![2, 5], 6, 6, None),
     ];
     for (circuit, set, caught, total, first) in sets {
         for verdict in [circuit.judge(&set, 1u32), circuit.cover(&set, 1u32)] {
@@ -127,6 +145,40 @@ fn catching(tally: &mut Tally, circuit: Circuit) -> Result<(), String> {
             let expected = Ok(vectors.contains(&vector));
             is(tally, "catches", circuit.catches(vector, fault), expected)?;
         }
+    }
+    Ok(())
+}
+
+/// Gate 2 of the sample does not touch line 2. That gets 9, in a multiple fault before 13.
+fn no_site(tally: &mut Tally, circuit: Circuit) -> Result<(), String> {
+    let refusal = |place| Some(Refusal { number: 9, place });
+    let fault = Fault::stuck_at(2, 2, true);
+    let told = circuit.catches(0, fault).err();
+    is(tally, "no site", told, refusal(1))?;
+    let told = circuit.test_for(fault).err();
+    is(tally, "the test for no site", told, refusal(1))?;
+    let mut list = [Fault::stuck_at(2, 1, true), fault];
+    let told = circuit.drop_caught(0, &mut list).err();
+    is(tally, "no site in a list", told, refusal(2))?;
+    let twice = [1, 0, 0, 0, 1, 0, 0, 0, 1, 2, 2, 1];
+    let told = circuit.catches_multiple(0, &twice).err();
+    is(tally, "no site in a multiple fault", told, refusal(3))
+}
+
+/// A compact set of 4 lines and gates of one line: 7 and 8 sites, then 15 and 16.
+fn rooms(tally: &mut Tally) -> Result<(), String> {
+    let refusal = Refusal {
+        number: 10,
+        place: 0,
+    };
+    for (depth, needed) in [(3, 4), (4, 5), (11, 5), (12, 6)] {
+        let gates = [0, 0, 0].repeat(depth);
+        let circuit = Circuit::new(4, &gates);
+        let mut room = vec![0; needed];
+        let told = circuit.compact_set_into(&mut room[1..]);
+        is(tally, "room that is short by one", told, Err(refusal))?;
+        let told = circuit.compact_set_into(&mut room).is_ok();
+        is(tally, "room that is enough", told, true)?;
     }
     Ok(())
 }

@@ -1,10 +1,12 @@
 //! Every question about small circuits: the sample circuit, and all circuits of few lines and gates.
 
 use crate::case::Question;
+use crate::room::{around, compact_room};
 use crate::samples::{sample_gates, LINES};
+use crate::sites::every_stuck_at;
 use crate::tally::Tally;
 use inputs::make::ones;
-use model::{compact_bound, export_real};
+use model::export_real;
 
 pub fn compare(tally: &mut Tally) -> Result<(), String> {
     every_run(tally)?;
@@ -88,8 +90,10 @@ fn one_circuit(tally: &mut Tally, lines: u32, gates: &[u32]) -> Result<(), Strin
     let depth = gates.len() / 3;
     let room = depth + 2;
     tally.circuit(lines, gates, Question::BackwardSet { room })?;
-    let room = compact_bound(lines, depth);
-    tally.circuit(lines, gates, Question::CompactSet { room })?;
+    for room in around(compact_room(lines, gates)) {
+        tally.circuit(lines, gates, Question::CompactSet { room })?;
+    }
+    every_stuck_at(tally, lines, gates)?;
     let text = export_real(lines, gates, usize::MAX).unwrap_or_default();
     let room = text.len();
     tally.circuit(lines, gates, Question::ExportReal { room })?;

@@ -1,7 +1,7 @@
 use model::Job;
 
 /// The report on [`longest_job`]. Each line has all the digits that it can have.
-pub const LONGEST_TEXT: &str = "J 32 1024 2048\nS 65577 65600 1002 30 0\nM 1023 1024 1000\nC 15333 15334 1001 15\nX 16381 16410 1000 15\n";
+pub const LONGEST_TEXT: &str = "J 32 1024 2048\nS 32779 32780 1002 30 0\nM 1023 1024 1000\nC 15333 15334 1001 15\nX 16381 16410 1000 15\n";
 
 /// A job as long as a job can be, with a report as long as a report can be.
 /// Lines 0 to 14 control nearly every gate, and line 31 is its target.
@@ -33,11 +33,16 @@ fn vectors() -> Vec<u32> {
 #[cfg(test)]
 mod tests {
     use super::{longest_job, LONGEST_TEXT};
-    use model::{image_of, LONGEST_JOB};
+    use model::{image_of, report, LONGEST_JOB};
 
     #[test]
     fn both_are_the_longest() {
         assert_eq!(image_of(&longest_job()).len(), LONGEST_JOB);
         assert_eq!(LONGEST_TEXT.len(), 100);
+    }
+
+    #[test]
+    fn the_simulator_says_the_same() {
+        assert_eq!(report(&image_of(&longest_job())), LONGEST_TEXT);
     }
 }

@@ -17,6 +17,21 @@ impl Drawn {
     pub fn ones(&self) -> u32 {
         ones(self.lines)
     }
+
+    /// Controls and target of a gate, by its number from 1.
+    fn gate(&self, number: u32) -> (u32, u32) {
+        let at = 3 * (number as usize - 1);
+        (self.gates[at], self.gates[at + 2])
+    }
+
+    /// The lines that can be stuck at a level: all of the input, else those of the gate before it.
+    fn touched(&self, level: u32) -> u32 {
+        if level == 0 {
+            return self.ones();
+        }
+        let (controls, target) = self.gate(level);
+        controls | 1u32.checked_shl(target).unwrap_or(0)
+    }
 }
 
 pub fn ones(lines: u32) -> u32 {
@@ -116,7 +131,7 @@ pub fn level(random: &mut Random, drawn: &Drawn) -> u32 {
 
 /// Four words: a fault of the circuit, or near misses.
 pub fn fault(random: &mut Random, drawn: &Drawn) -> [u32; 4] {
-    if random.one_in(6) {
+    if random.one_in(5) {
         bad_fault(random, drawn)
     } else {
         good_fault(random, drawn)
@@ -124,6 +139,9 @@ pub fn fault(random: &mut Random, drawn: &Drawn) -> [u32; 4] {
 }
 
 fn bad_fault(random: &mut Random, drawn: &Drawn) -> [u32; 4] {
+    if random.one_in(3) {
+        return stuck_at_no_site(random, drawn);
+    }
     let mut fault = good_fault(random, drawn);
     let field = random.index(4);
     fault[field] = match field {
@@ -136,13 +154,12 @@ fn bad_fault(random: &mut Random, drawn: &Drawn) -> [u32; 4] {
 }
 
 pub fn good_fault(random: &mut Random, drawn: &Drawn) -> [u32; 4] {
-    let line = random.upto(drawn.lines.clamp(1, 32) - 1);
     if drawn.depth() == 0 || random.one_in(3) {
-        return [1, random.upto(drawn.depth()), line, random.upto(1)];
+        return stuck_at_site(random, drawn);
     }
-    let gate = random.index(drawn.gates.len() / 3);
-    let place = gate as u32 + 1;
-    let (controls, target) = (drawn.gates[3 * gate], drawn.gates[3 * gate + 2]);
+    let place = 1 + random.upto(drawn.depth() - 1);
+    let (controls, target) = drawn.gate(place);
+    let line = random.upto(drawn.lines.clamp(1, 32) - 1);
     if line == target || random.one_in(3) {
         [2, place, 0, 0]
     } else if controls >> line & 1 == 1 {
@@ -152,20 +169,45 @@ pub fn good_fault(random: &mut Random, drawn: &Drawn) -> [u32; 4] {
     }
 }
 
+/// A stuck-at fault at a level and a line that is there.
+fn stuck_at_site(random: &mut Random, drawn: &Drawn) -> [u32; 4] {
+    let level = random.upto(drawn.depth());
+    let line = line_of(random, drawn.touched(level));
+    [1, level, line, random.upto(1)]
+}
+
+/// A stuck-at fault at a level and a line that its gate does not touch, where there is one.
+fn stuck_at_no_site(random: &mut Random, drawn: &Drawn) -> [u32; 4] {
+    let level = random.upto(drawn.depth());
+    let line = line_of(random, drawn.ones() & !drawn.touched(level));
+    [1, level, line, random.upto(1)]
+}
+
+/// A line of a mask, and line 0 of an empty one.
+fn line_of(random: &mut Random, mask: u32) -> u32 {
+    let lines: Vec<u32> = (0..32).filter(|line| mask >> line & 1 == 1).collect();
+    match lines[..] {
+        [] => 0,
+        _ => random.pick(&lines),
+    }
+}
+
 /// Entries of a multiple fault, mostly good ones.
 pub fn entries(random: &mut Random, drawn: &Drawn) -> Vec<u32> {
     let mut entries: Vec<[u32; 4]> = Vec::new();
     for _ in 0..random.upto(6) {
-        let level = random.upto(drawn.depth());
-        let line = random.upto(drawn.lines.clamp(1, 32) - 1);
-        let twice = entries.iter().any(|e| e[1] == level && e[2] == line);
+        let entry = stuck_at_site(random, drawn);
+        let twice = entries.iter().any(|e| e[1..3] == entry[1..3]);
         if !twice || random.one_in(8) {
-            entries.push([1, level, line, random.upto(1)]);
+            entries.push(entry);
         }
     }
-    if !entries.is_empty() && random.one_in(8) {
+    if !entries.is_empty() && random.one_in(6) {
         let at = random.index(entries.len());
-        entries[at] = fault(random, drawn);
+        entries[at] = match random.one_in(2) {
+            true => fault(random, drawn),
+            false => stuck_at_no_site(random, drawn),
+        };
     }
     with_leftovers(random, entries.concat())
 }
@@ -176,7 +218,7 @@ pub fn faults(random: &mut Random, drawn: &Drawn) -> Vec<u32> {
     let mut list: Vec<[u32; 4]> = (0..random.upto(most))
         .map(|_| good_fault(random, drawn))
         .collect();
-    if !list.is_empty() && random.one_in(6) {
+    if !list.is_empty() && random.one_in(5) {
         let at = random.index(list.len());
         list[at] = bad_fault(random, drawn);
     }
@@ -270,4 +312,73 @@ pub fn change_header(random: &mut Random, image: &mut [u8]) {
 pub fn bytes(random: &mut Random) -> Vec<u8> {
     let most = random.pick(&[27, 28, 40, 200]);
     (0..random.upto(most)).map(|_| random.byte()).collect()
+}
+
+#[cfg(test)]
+mod tests {
+    use super::{circuit, entries, fault, faults, Drawn};
+    use crate::Random;
+    use model::{catches_multiple, drop_caught, test_for, Refusal, Told};
+
+    const ROUNDS: u64 = 3000;
+
+    /// How many of the drawn lists of faults are taken, and how many are refused for a level and a line that make no site.
+    fn taken_and_no_site(
+        draw: impl Fn(&mut Random, &Drawn) -> Vec<u32>,
+        ask: impl Fn(&Drawn, &[u32]) -> Told<()>,
+    ) -> (u64, u64) {
+        let (mut taken, mut no_site) = (0, 0);
+        for round in 0..ROUNDS {
+            let mut random = Random::of_round(1, round);
+            let drawn = circuit(&mut random);
+            let list = draw(&mut random, &drawn);
+            match ask(&drawn, &list) {
+                Ok(()) => taken += 1,
+                Err(refusal) => no_site += u64::from(is_no_site(&drawn, &list, refusal)),
+            }
+        }
+        (taken, no_site)
+    }
+
+    /// Whether all fields of the refused record are in range, so that only the pair of level and line is wrong.
+    fn is_no_site(drawn: &Drawn, list: &[u32], refusal: Refusal) -> bool {
+        if refusal.number != 9 {
+            return false;
+        }
+        match list.chunks(4).nth(refusal.place as usize - 1) {
+            Some([1, level, line, 0..=1]) => *level <= drawn.depth() && *line < drawn.lines,
+            _ => false,
+        }
+    }
+
+    /// Most of what is drawn is taken, and what is no site is met often enough to be tried.
+    fn both_are_drawn((taken, no_site): (u64, u64)) {
+        assert!(taken > ROUNDS / 2, "{} of {} taken", taken, ROUNDS);
+        assert!(no_site > ROUNDS / 50, "{} of {} no site", no_site, ROUNDS);
+    }
+
+    #[test]
+    fn faults_alone() {
+        both_are_drawn(taken_and_no_site(
+            |random, drawn| fault(random, drawn).to_vec(),
+            |drawn, list| {
+                let fault = [list[0], list[1], list[2], list[3]];
+                test_for(drawn.lines, &drawn.gates, fault).map(|_| ())
+            },
+        ));
+    }
+
+    #[test]
+    fn entries_of_a_multiple_fault() {
+        both_are_drawn(taken_and_no_site(entries, |drawn, list| {
+            catches_multiple(drawn.lines, &drawn.gates, 0, list).map(|_| ())
+        }));
+    }
+
+    #[test]
+    fn lists_of_faults() {
+        both_are_drawn(taken_and_no_site(faults, |drawn, list| {
+            drop_caught(drawn.lines, &drawn.gates, 0, list).map(|_| ())
+        }));
+    }
 }

@@ -32,6 +32,16 @@ impl Gate {
         has(self.controls, line)
     }
 
+    /// Whether a line is the gate's own, as a control or as its target.
+    pub fn touches(self, line: u32) -> bool {
+        self.is_control(line) || line == self.target
+    }
+
+    /// The number of its lines.
+    fn size(self) -> usize {
+        self.controls.count_ones() as usize + 1
+    }
+
     fn is_bad(self, lines: u32) -> bool {
         !fits(self.controls, lines)
             || self.spare != 0
@@ -70,6 +80,19 @@ impl Circuit {
 
     pub fn depth(&self) -> usize {
         self.gates.len()
+    }
+
+    /// A site is level 0 with any line, or level i with a line of gate i.
+    pub fn is_site(&self, level: usize, line: u32) -> bool {
+        line < self.lines
+            && level <= self.depth()
+            && (level == 0 || self.gates[level - 1].touches(line))
+    }
+
+    /// The number of sites: the lines, and the sizes of all gates.
+    pub fn sites(&self) -> usize {
+        let sizes: usize = self.gates.iter().map(|gate| gate.size()).sum();
+        self.lines as usize + sizes
     }
 
     /// Rule 8 for a state that stands alone.

@@ -19,7 +19,7 @@ impl Fault {
         let [class, place, line, value] = words;
         let place = place as usize;
         if class == 1 {
-            let there = place <= circuit.depth() && line < circuit.lines && value <= 1;
+            let there = circuit.is_site(place, line) && value <= 1;
             return there.then_some(Fault::StuckAt {
                 level: place,
                 line,
@@ -31,7 +31,7 @@ impl Fault {
         }
         let gate = circuit.gates[place - 1];
         let control = line < circuit.lines && gate.is_control(line);
-        let free = line < circuit.lines && !gate.is_control(line) && line != gate.target;
+        let free = line < circuit.lines && !gate.touches(line);
         match class {
             2 if line == 0 => Some(Fault::MissingGate { gate: place }),
             3 if control => Some(Fault::MissingControl { gate: place, line }),

@@ -20,16 +20,20 @@ pub fn backward_set(lines: u32, gates: &[u32], room: usize) -> Told<Vec<u32>> {
 pub fn compact_set(lines: u32, gates: &[u32], room: usize) -> Told<Vec<u32>> {
     let circuit = Circuit::checked(lines, gates, 0)?;
     refuse(11, 0, lines > MOST_COMPACT_LINES)?;
-    refuse(10, 0, room < compact_bound(lines, circuit.depth()))?;
+    refuse(10, 0, room < bound(circuit.sites()))?;
     Ok(greedy(&circuit))
 }
 
+/// The room that a compact set of this circuit needs, of any number of lines.
+pub fn compact_bound(lines: u32, gates: &[u32]) -> Told<usize> {
+    Circuit::checked(lines, gates, 0).map(|circuit| bound(circuit.sites()))
+}
+
 /// 2 + floor(log2 S), where S is the number of sites.
-pub fn compact_bound(lines: u32, depth: usize) -> usize {
-    let mut sites = lines as usize * (depth + 1);
-    let mut log = 0;
-    while sites > 1 {
-        sites /= 2;
+fn bound(sites: usize) -> usize {
+    let (mut left, mut log) = (sites, 0);
+    while left > 1 {
+        left /= 2;
         log += 1;
     }
     2 + log

@@ -3,7 +3,7 @@ use crate::{raw, Fault, Refusal, Verdict};
 /// The most lines a circuit can have, and the bits of a mask.
 const MOST_LINES: u32 = 32;
 
-/// The most vectors a compact set can have: 2 + floor(log2 S), with S at 12 lines and 1,024 gates.
+/// The most vectors a compact set can have: 2 + floor(log2 S), with S at 12 lines and 1,024 gates on all of them.
 const LARGEST_COMPACT_SET: usize = 15;
 
 /// The most gates a circuit can have.

@@ -49,6 +49,7 @@ impl Fault {
         value: 0,
     };
 
+    /// Level 0 has every line, and level i the lines of gate i, its controls and its target.
     pub fn stuck_at(level: u32, line: u32, value: bool) -> Fault {
         let value = value.into();
         Fault::of(Class::StuckAt, level, line, value)

@@ -8,7 +8,7 @@
 //! let gates = [gate(&[0, 1], 2)?, gate(&[0], 1)?].concat();
 //! let circuit = Circuit::new(3, &gates);
 //! let verdict = circuit.judge(&[0, 7], Class::StuckAt)?;
-//! assert_eq!((verdict.caught, verdict.total), (15, 18));
+//! assert_eq!((verdict.caught, verdict.total), (14, 16));
 //! assert_eq!(verdict.first_uncaught, Some(Fault::stuck_at(1, 2, false)));
 //! # Ok::<(), nufsadeem::Refusal>(())
 //! ```

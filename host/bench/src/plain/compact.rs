@@ -1,4 +1,4 @@
-use super::{gates_of, ones, Gate};
+use super::{gates_of, ones, sites, Gate};
 
 /// For each level the lines whose stuck-at-0 and whose stuck-at-1 fault is uncaught.
 struct Left {
@@ -40,9 +40,10 @@ impl Left {
 
 pub fn compact_set(lines: u32, gates: &[u32]) -> Option<Vec<u32>> {
     let gates = gates_of(lines, gates)?;
+    let sites: Vec<u32> = sites(lines, &gates).collect();
     let mut left = Left {
-        at_0: vec![ones(lines); gates.len() + 1],
-        at_1: vec![ones(lines); gates.len() + 1],
+        at_0: sites.clone(),
+        at_1: sites,
     };
     let mut picks = Vec::new();
     while !left.is_empty() {

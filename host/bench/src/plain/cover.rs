@@ -43,7 +43,7 @@ impl Coverage {
 
     fn verdict(&self, lines: u32, gates: &[Gate], class: u32) -> Option<Verdict> {
         match class {
-            1 => Some(self.seen.verdict(lines)),
+            1 => Some(self.seen.verdict(lines, gates)),
             2 => Some(verdict_on_gates(2, &self.fired, |_| 1)),
             3 => Some(verdict_on_gates(3, &self.lone_zeros, |at| {
                 gates[at].controls

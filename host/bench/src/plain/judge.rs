@@ -39,7 +39,7 @@ fn stuck_at(lines: u32, gates: &[Gate], vectors: &[u32]) -> Verdict {
             *ones |= state;
         }
     }
-    seen.verdict(lines)
+    seen.verdict(lines, gates)
 }
 
 /// One word a gate: what `mark` says of the states that it read, or-ed.

@@ -39,9 +39,20 @@ impl Gate {
         }
     }
 
-    fn free(&self, lines: u32) -> u32 {
-        ones(lines) & !self.controls & !(1 << self.target)
+    fn touched(&self) -> u32 {
+        self.controls | 1 << self.target
     }
+
+    fn free(&self, lines: u32) -> u32 {
+        ones(lines) & !self.touched()
+    }
+}
+
+/// For each level its sites: all lines of the input, then those of each gate.
+fn sites(lines: u32, gates: &[Gate]) -> impl Iterator<Item = u32> + '_ {
+    [ones(lines)]
+        .into_iter()
+        .chain(gates.iter().map(Gate::touched))
 }
 
 fn ones(lines: u32) -> u32 {
@@ -81,19 +92,20 @@ impl Seen {
         }
     }
 
-    fn verdict(&self, lines: u32) -> Verdict {
-        let all = ones(lines);
-        let (mut caught, mut first) = (0, None);
-        for (level, (zero, one)) in self.zeros.iter().zip(&self.ones).enumerate() {
-            caught += (zero & all).count_ones() + (one & all).count_ones();
-            let missed = !(zero & one) & all;
+    fn verdict(&self, lines: u32, gates: &[Gate]) -> Verdict {
+        let (mut caught, mut total, mut first) = (0, 0, None);
+        let levels = self.zeros.iter().zip(&self.ones).zip(sites(lines, gates));
+        for (level, ((zero, one), there)) in levels.enumerate() {
+            caught += (zero & there).count_ones() + (one & there).count_ones();
+            total += 2 * there.count_ones();
+            let missed = !(zero & one) & there;
             if first.is_none() && missed != 0 {
                 let line = missed.trailing_zeros();
                 let value = one >> line & 1;
                 first = Some([1, level as u32, line, value]);
             }
         }
-        (caught, 2 * lines * self.zeros.len() as u32, first)
+        (caught, total, first)
     }
 }
 
