@@ -115,6 +115,10 @@ both-save c g h k a b here = same-step h k (a .same-target ∙ sym (b .same-targ
     (λ e. subst (λ i. Control h i ↔ Control k i) e here)
     (λ d. (λ o. b .same-controls j d .1 (a .same-controls j d .0 o), λ o. a .same-controls j d .1 (b .same-controls j d .0 o))))
 
+-- one stuck line
+pub line-stuck : (gs : List Gate) (f : Fault) (x : ℕ) → f .class ≡ 1 → f .value ≤ 1 → StuckRuns (f ∷ []) 0 gs x (faulty gs f x)
+line-stuck gs f x e v = subst (StuckRuns (f ∷ []) 0 gs x) (sym (faulty-stuck gs f x e)) (stuck-stuck (f ∷ []) 0 gs x (v, tt) (tt, tt))
+
 module _ (n : ℕ) (gs : List Gate) (f : Fault) where
   module _ (h : Has n gs f) (x : ℕ) where
     control-less : f .class ≡ 3 → faulty gs f x ≡ run (Instead gs (f .place) (lessControl (f .line) (gate gs (f .place)))) x
@@ -131,12 +135,9 @@ module _ (n : ℕ) (gs : List Gate) (f : Fault) where
     unfolding without
     gate-less e = faulty-missing-gate gs f x e
 
-    line-stuck : (e : f .class ≡ 1) → StuckRuns (f ∷ []) 0 gs x (faulty gs f x)
-    line-stuck e = subst (StuckRuns (f ∷ []) 0 gs x) (sym (faulty-stuck gs f x e)) (stuck-stuck (f ∷ []) 0 gs x (has-value n gs f h e, tt) (tt, tt))
-
     -- what the contracts cite is what it gives
     by-class : Has n gs f → FaultyRuns gs f x (faulty gs f x)
-    by-class (stuck-at e s v) = stuck-runs e (line-stuck e)
+    by-class (stuck-at e s v) = stuck-runs e (line-stuck gs f x e v)
     by-class (missing-gate e lo hi l v) =
         gate-away e (subst (Runs (Without gs (f .place)) x) (sym (gate-less e)) (runs-run (Without gs (f .place)) x))
     by-class (missing-control e lo hi l v) =
@@ -153,7 +154,7 @@ module _ (n : ℕ) (gs : List Gate) (f : Fault) where
 
     -- and nothing else
     pub faulty-is : (t : ℕ) → FaultyRuns gs f x t → t ≡ faulty gs f x
-    faulty-is t (stuck-runs e w) = stuck-one (f ∷ []) 0 gs x t (faulty gs f x) w (line-stuck e)
+    faulty-is t (stuck-runs e w) = stuck-one (f ∷ []) 0 gs x t (faulty gs f x) w (line-stuck gs f x e (has-value n gs f h e))
     faulty-is t (gate-away e w) = runs-is (Without gs (f .place)) x t w ∙ sym (gate-less e)
     faulty-is t (control-away e k save none w) =
         let g : Gate = gate gs (f .place) in

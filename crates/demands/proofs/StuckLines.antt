@@ -1,32 +1,32 @@
 -- A line that is stuck at a level whose gate does not touch it gives the outputs that it gives stuck at a site. So a set that catches every stuck-at
 -- fault catches any line stuck at any level too, and any number of them together.
 use Prim.Native.Nat.{ℕ, _≤_, _<_}
-use mathlib.Core.Path.{_≡_, refl, sym, _∙_, subst}
+use mathlib.Core.Path.{_≡_, refl, sym, ap, _∙_, subst}
 use mathlib.Core.Logic.{_↔_}
 use mathlib.Core.Bool.{true}
 use mathlib.Core.List.{List, [], _∷_, List·Memᴰ}
 use native.Mathlib.Omega.{arith}
-use lib.ListN.{length}
+use lib.ListN.{length, take}
 use borrow.Author.Tests.{eq-eqb}
 use Rattle.basics.specs.Lists.{All}
 use Rattle.basics.proofs.Lists.{all-entry}
 use Rattle.words.specs.Word.{bit}
+use Rattle.circuit.specs.Runs.{forward}
 use Rattle.circuit.specs.Sound.{AllOk}
 use Rattle.circuit.specs.declared.Gate.{Gate}
 use Rattle.faults.specs.Sites.{sites}
 use Rattle.faults.specs.Stuck.{StuckOk}
 use Rattle.faults.specs.declared.Fault.{Fault}
 use Rattle.simulator.specs.Faulty.{faulty, caught}
-use Rattle.simulator.proofs.FaultyLaws.{faulty-stuck}
-use Rattle.simulator.proofs.UntouchedLaws.{last-site, movedTo, outputs-kept}
+use Rattle.simulator.proofs.UntouchedLaws.{last-site, value-kept, movedTo, outputs-kept}
 use Rattle.multiple_faults.specs.Multiple.{caughtTogether}
 use Rattle.testsets.proofs.Multiple.{deepest, deepest-caught}
-use Rattle.demands.proofs.Machine.{FaultyRuns, StuckRuns, Caught, Has, NoSiteTwice}
+use Rattle.demands.proofs.Machine.{Level, FaultyRuns, StuckRuns, Caught, Has, NoSiteTwice}
 use Rattle.demands.proofs.Machine.FaultyRuns.{stuck-at, missing-gate, missing-control, extra-control}
 use Rattle.demands.proofs.Machine.Has.{stuck-at as has-stuck}
-use Rattle.demands.proofs.MachineLaws.{stuck-stuck, stuck-one}
+use Rattle.demands.proofs.MachineLaws.{runs-is, stuck-one}
 use Rattle.demands.proofs.HasLaws.{site-of, has-line}
-use Rattle.demands.proofs.FaultyLaws.{differ-means, faulty-faulty, faulty-is}
+use Rattle.demands.proofs.FaultyLaws.{differ-means, line-stuck, faulty-faulty, faulty-is}
 use Rattle.demands.proofs.FaultLists.{CaughtBySome}
 use Rattle.demands.proofs.Completeness.{EveryCaught}
 
@@ -58,8 +58,7 @@ module _ (n : ℕ) (gs : List Gate) (f : Fault) (is : StuckLine n gs f) where
   module _ (x : ℕ) where
     -- what the contracts cite is the output with the line stuck, and nothing else
     line-runs : StuckRuns (f ∷ []) 0 gs x (faulty gs f x)
-    line-runs = subst (StuckRuns (f ∷ []) 0 gs x) (sym (faulty-stuck gs f x (is .class-is)))
-        (stuck-stuck (f ∷ []) 0 gs x (is .value-in, tt) (tt, tt))
+    line-runs = line-stuck gs f x (is .class-is) (is .value-in)
 
     output-is : (t : ℕ) → FaultyRuns gs f x t → t ≡ faulty gs f x
     output-is t (stuck-at e w) = stuck-one (f ∷ []) 0 gs x t (faulty gs f x) w line-runs
@@ -79,9 +78,12 @@ module _ (n : ℕ) (gs : List Gate) (f : Fault) (is : StuckLine n gs f) where
     pub no-later : kept .place ≤ f .place
     pub same-line : kept .line ≡ f .line
     pub same-value : kept .value ≡ f .value
+    -- the line has one value at both levels, in the good circuit
+    pub same-good : (x s t : ℕ) → Level gs (f .place) x s → Level gs (kept .place) x t → bit s (f .line) ≡ bit t (f .line)
     pub same-outputs : (x t : ℕ) → FaultyRuns gs f x t ↔ FaultyRuns gs kept x t
 
   pub alike : Alike
+  unfolding forward
   alike =
       let last = last-site n gs (f .place) (f .line) (is .line-in) in
       let k : ℕ = last .0 in
@@ -97,6 +99,9 @@ module _ (n : ℕ) (gs : List Gate) (f : Fault) (is : StuckLine n gs f) where
         no-later = last .1 .within;
         same-line = refl;
         same-value = refl;
+        same-good = λ x s t here there.
+            ap (λ u. bit u (f .line)) (runs-is (take (f .place) gs) x s here) ∙ value-kept gs (f .line) x n (f .place) k (last .1) (is .level-in)
+            ∙ sym (ap (λ u. bit u (f .line)) (runs-is (take k gs) x t there));
         same-outputs = λ x t. (
           λ w. subst (FaultyRuns gs h x) (sym (output-is x t w ∙ same x)) (faulty-faulty n gs h has x),
           λ w. subst (FaultyRuns gs f x) (sym (faulty-is n gs h has x t w ∙ sym (same x))) (stuck-at (is .class-is) (line-runs x)),

@@ -1,4 +1,4 @@
--- What a stuck line that breaks no rule is.
+-- A stuck line that can be forced, at a site or not; a fault of the circuit is one at a site.
 use Prim.Native.Nat.{ℕ, _≤_, _<_}
 use mathlib.Core.Path.{_≡_}
 use Rattle.faults.specs.declared.Fault.{Fault}

@@ -14,7 +14,7 @@ use Rattle.simulator.specs.Faulty.{stuckRun}
 unfoldable pub badEntry : ℕ → List Gate → Fault → Bool
 badEntry n gs f = not (eqb (f .class) 1 && isStuckAt n gs f)
 
--- a site is a level and a line
+-- one site: the same level and line
 unfoldable pub sameSite : Fault → Fault → Bool
 sameSite f h = eqb (f .place) (h .place) && eqb (f .line) (h .line)
 

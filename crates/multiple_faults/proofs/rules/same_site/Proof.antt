@@ -1,4 +1,4 @@
--- `multiple_faults::rules::same_site` meets its contract: a site is a level and a line. Assumes nothing.
+-- `multiple_faults::rules::same_site` meets its contract: one site is one level and one line. Assumes nothing.
 use borrow.Author.Tests.{eq-eqb, ne-eqb}
 use Rattle.multiple_faults.specs.Multiple.{sameSite}
 use Rattle.multiple_faults.proofs.rules.same_site.Statement.{statement}
