@@ -5,10 +5,11 @@ use mathlib.Core.List.{List}
 use native.Mathlib.Nat.{mul-comm, mul-le-mul}
 use native.Mathlib.Omega.{arith}
 use lib.ListN.{length}
+use borrow.Author.Tests.{eq-eqb}
 use Rattle.basics.specs.Lists.{upFrom, keep}
 use Rattle.basics.specs.Sums.{sumFrom}
 use Rattle.basics.proofs.SumLaws.{sum-cong, sum-most, sum-more, sum-end}
-use Rattle.words.specs.Word.{linesOn}
+use Rattle.words.specs.Word.{bit, linesOn}
 use Rattle.words.proofs.AndLaws.{length-lines-le}
 use Rattle.words.proofs.LineLists.{length-lines-ones}
 use Rattle.words.proofs.SplitLaws.{length-wide}
@@ -22,8 +23,12 @@ use Rattle.circuit.proofs.LineLaws.{touched-count}
 use Rattle.circuit.proofs.RuleLaws.{gate-at-ok}
 use Rattle.faults.specs.Sites.{sites, siteCount}
 use Rattle.faults.specs.Classes.{stuckFaults}
-use Rattle.faults.proofs.SiteLaws.{sites-lt, sites-input, sites-gate}
+use Rattle.faults.proofs.SiteLaws.{sites-lt, site-line, sites-input, sites-gate}
 use Rattle.faults.proofs.ClassCounts.{length-stuck-sites}
+
+-- a site's line is one of the circuit's lines
+pub site-below : (n : ℕ) (gs : List Gate) (i j : ℕ) → bit (sites n gs i) j ≡ 1 → j < n
+site-below n gs i j o = site-line n gs i j (eq-eqb (bit (sites n gs i) j) 1 o)
 
 -- two stuck-at faults for each site
 pub stuck-sites : (n : ℕ) (gs : List Gate) → length (stuckFaults n gs) ≡ 2 * siteCount n gs

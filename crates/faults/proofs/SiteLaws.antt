@@ -7,7 +7,7 @@ use mathlib.Core.List.{List}
 use native.Mathlib.Decide.{decLe}
 use native.Mathlib.Omega.{arith}
 use lib.Dec.{eqb}
-use borrow.Author.Tests.{eqb-true, eq-eqb, ne-eqb}
+use borrow.Author.Tests.{eqb-true, ne-eqb}
 use Rattle.words.specs.Word.{bit, allOnes}
 use Rattle.words.specs.WordOf.{wordOf}
 use Rattle.words.proofs.Bits.{bit-above}
@@ -48,6 +48,3 @@ pub site-line : (n : ℕ) (gs : List Gate) (i j : ℕ) → eqb (bit (sites n gs 
 site-line n gs i j e = by-cases (decLe n j)
     (λ above. absurd (omega (arith, bit-above n (sites n gs i) j (sites-lt n gs i) above, eqb-true (bit (sites n gs i) j) 1 e)))
     (λ below. omega arith)
-
-pub site-below : (n : ℕ) (gs : List Gate) (i j : ℕ) → bit (sites n gs i) j ≡ 1 → j < n
-site-below n gs i j o = site-line n gs i j (eq-eqb (bit (sites n gs i) j) 1 o)

@@ -32,7 +32,7 @@ use Rattle.judge.specs.Judging.{caughtBySome}
 use Rattle.testsets.specs.Sets.{Complete, backwardInput, backwardSet}
 use Rattle.testsets.proofs.SetLaws.{complete-iff}
 use Rattle.marking.proofs.MarkLaws.{caught-stuck}
-use Rattle.faults.proofs.SiteLaws.{site-below}
+use Rattle.faults.proofs.SiteCount.{site-below}
 
 -- what the vector of level i gives there
 pub backward-input-level : (n : ℕ) (gs : List Gate) → AllOk n gs → (i : ℕ) → forward gs i (backwardInput n gs i) ≡ inverse n (forward gs i 0)

@@ -36,7 +36,7 @@ use Rattle.marking.proofs.MarkLaws.{caught-stuck}
 use Rattle.marking.proofs.Counting.{count-stuck}
 use Rattle.testsets.specs.Sets.{score}
 use Rattle.testsets.specs.Left.{leftOf, AllSites, OnSites, Left}
-use Rattle.faults.proofs.SiteLaws.{site-below}
+use Rattle.faults.proofs.SiteCount.{site-below}
 use Rattle.testsets.proofs.Changes.{Changed}
 
 -- ---- at the start

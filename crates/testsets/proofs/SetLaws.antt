@@ -19,7 +19,7 @@ use Rattle.judge.specs.Judging.{caughtBySome, uncaughtOf}
 use Rattle.marking.proofs.MarkLaws.{stuck-of}
 use Rattle.testsets.specs.Sets.{Complete, score}
 use Rattle.faults.proofs.ClassParts.{all-stuck, stuck-all}
-use Rattle.faults.proofs.SiteLaws.{site-below}
+use Rattle.faults.proofs.SiteCount.{site-below}
 
 -- ---- all stuck-at faults of a circuit
 
