@@ -9,7 +9,7 @@ use Rattle.borders.specs.Rows.Row.{_tells_}
 use Rattle.simulator.specs.Promises.{outputTells, catchesTells}
 use Rattle.fault_test.specs.Promises.{testForTells}
 
--- on 3 lines, a gate without controls for each target: 0, then 1, then 2
+-- gates without controls, of targets 0, 1 and 2 in turn
 abbrev pub inTurn : List ℕ
 inTurn = 0 ∷ 0 ∷ 0 ∷ 0 ∷ 0 ∷ 1 ∷ 0 ∷ 0 ∷ 2 ∷ []
 
@@ -36,8 +36,9 @@ faultTable =
     catchesTells 3 sampleWords 3 (fault 1 0 1 1) tells answered (0 ∷ []) ∷
     catchesTells 3 sampleWords 3 (fault 1 0 2 1) tells answered (1 ∷ []) ∷
     catchesTells 3 sampleWords 3 (fault 1 0 3 1) tells refused 9 1 ∷
-    catchesTells 3 (1 ∷ 0 ∷ 1 ∷ []) 3 (fault 1 0 2 1) tells answered (1 ∷ []) ∷
-    catchesTells 3 (1 ∷ 0 ∷ 1 ∷ []) 3 (fault 1 1 2 1) tells refused 9 1 ∷
+    catchesTells 4 sampleWords 3 (fault 1 0 3 1) tells answered (1 ∷ []) ∷
+    catchesTells 4 sampleWords 3 (fault 1 1 3 1) tells refused 9 1 ∷
+    catchesTells 4 sampleWords 3 (fault 1 2 3 1) tells refused 9 1 ∷
     catchesTells 32 [] 0 (fault 1 0 31 1) tells answered (1 ∷ []) ∷
     catchesTells 32 [] 0 (fault 1 0 32 1) tells refused 9 1 ∷
     -- line at level i: a control or the target of gate i
@@ -117,6 +118,7 @@ faultTable =
     -- the same rule for the faulty run
     outputTells 3 sampleWords 3 (fault 0 1 0 0) tells refused 9 1 ∷
     outputTells 3 sampleWords 3 (fault 1 0 2 1) tells answered (1 ∷ []) ∷
+    outputTells 3 sampleWords 3 (fault 1 0 3 1) tells refused 9 1 ∷
     outputTells 3 sampleWords 3 (fault 1 2 0 0) tells answered (4 ∷ []) ∷
     outputTells 3 sampleWords 3 (fault 1 2 1 0) tells answered (5 ∷ []) ∷
     outputTells 3 sampleWords 3 (fault 1 2 2 1) tells refused 9 1 ∷
@@ -128,6 +130,7 @@ faultTable =
     -- and for the test of a fault
     testForTells 3 sampleWords (fault 0 1 0 0) tells refused 9 1 ∷
     testForTells 3 sampleWords (fault 1 0 1 1) tells answered (5 ∷ []) ∷
+    testForTells 3 sampleWords (fault 1 0 3 1) tells refused 9 1 ∷
     testForTells 3 sampleWords (fault 1 2 0 1) tells answered (6 ∷ []) ∷
     testForTells 3 sampleWords (fault 1 2 1 1) tells answered (3 ∷ []) ∷
     testForTells 3 sampleWords (fault 1 2 1 2) tells refused 9 1 ∷

@@ -40,7 +40,7 @@ judgeTable =
     judgeTells 3 sampleWords (7 ∷ []) 1 tells answered (8 ∷ 16 ∷ 0 ∷ 1 ∷ 0 ∷ 0 ∷ 1 ∷ []) ∷
     judgeTells 3 sampleWords (1 ∷ []) 2 tells answered (1 ∷ 2 ∷ 0 ∷ 2 ∷ 1 ∷ 0 ∷ 0 ∷ []) ∷
     judgeTells 3 sampleWords (1 ∷ []) 4 tells answered (1 ∷ 1 ∷ 1 ∷ 0 ∷ 0 ∷ 0 ∷ 0 ∷ []) ∷
-    -- class 1 has two faults a site: no gates; one gate without controls, with one of 3 controls, with all; gates that are alike
+    -- class 1 has two faults a site: no gates; one gate with no control, with one, and on all lines; two gates that are alike
     judgeTells 3 [] [] 1 tells answered (0 ∷ 6 ∷ 0 ∷ 1 ∷ 0 ∷ 0 ∷ 0 ∷ []) ∷
     judgeTells 3 [] (0 ∷ 7 ∷ []) 1 tells answered (6 ∷ 6 ∷ 1 ∷ 0 ∷ 0 ∷ 0 ∷ 0 ∷ []) ∷
     judgeTells 4 (0 ∷ 0 ∷ 2 ∷ []) [] 1 tells answered (0 ∷ 10 ∷ 0 ∷ 1 ∷ 0 ∷ 0 ∷ 0 ∷ []) ∷
@@ -50,7 +50,7 @@ judgeTable =
     judgeTells 4 (11 ∷ 0 ∷ 2 ∷ []) [] 1 tells answered (0 ∷ 16 ∷ 0 ∷ 1 ∷ 0 ∷ 0 ∷ 0 ∷ []) ∷
     judgeTells 4 (1 ∷ 0 ∷ 2 ∷ 1 ∷ 0 ∷ 2 ∷ []) [] 1 tells answered (0 ∷ 16 ∷ 0 ∷ 1 ∷ 0 ∷ 0 ∷ 0 ∷ []) ∷
     judgeTells 32 (0 ∷ 0 ∷ 31 ∷ []) (0 ∷ []) 1 tells answered (33 ∷ 66 ∷ 0 ∷ 1 ∷ 0 ∷ 0 ∷ 0 ∷ []) ∷
-    -- the first uncaught at a level whose lower lines are no sites: line 2, then line 1, and with none left
+    -- the first uncaught at level 1, where line 0 is no site: at line 2, at line 1, and none
     judgeTells 3 (2 ∷ 0 ∷ 2 ∷ []) (0 ∷ 7 ∷ []) 1 tells answered (9 ∷ 10 ∷ 0 ∷ 1 ∷ 1 ∷ 2 ∷ 0 ∷ []) ∷
     judgeTells 3 (4 ∷ 0 ∷ 1 ∷ []) (0 ∷ 7 ∷ []) 1 tells answered (9 ∷ 10 ∷ 0 ∷ 1 ∷ 1 ∷ 1 ∷ 0 ∷ []) ∷
     judgeTells 3 (0 ∷ 0 ∷ 2 ∷ []) (0 ∷ 7 ∷ []) 1 tells answered (8 ∷ 8 ∷ 1 ∷ 0 ∷ 0 ∷ 0 ∷ 0 ∷ []) ∷

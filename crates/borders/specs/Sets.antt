@@ -1,6 +1,6 @@
 -- The backward set and the compact set: rules 10 and 11, what is told, and what the room holds after.
 use Prim.Native.Nat.{ℕ}
-use mathlib.Core.List.{List, [], _∷_}
+use mathlib.Core.List.{List, [], _∷_, _++_}
 use Rattle.refusals.specs.Tables.{firstOf}
 use Rattle.refusals.specs.Tables.Told.{answered, refused}
 use Rattle.testsets.specs.Rules.{compactRows}
@@ -12,6 +12,7 @@ use Rattle.proved_samples.specs.Sample.{sampleWords}
 use Rattle.borders.specs.Rows.{Row}
 use Rattle.borders.specs.Rows.Row.{_tells_, _gives_}
 use Rattle.testsets.specs.Promises.{backwardSetTells, backwardSetLeaves, compactSetTells, compactSetLeaves}
+use Rattle.borders.specs.Faults.{inTurn}
 
 -- the number of sites of a circuit, and the room for its compact set
 abbrev pub countAndBound : ℕ → List ℕ → List ℕ
@@ -50,17 +51,18 @@ setTable =
     countAndBound 32 (0 ∷ 0 ∷ 31 ∷ []) gives (33 ∷ 7 ∷ []) ∷
     countAndBound 32 (2147483646 ∷ 0 ∷ 0 ∷ []) gives (63 ∷ 7 ∷ []) ∷
     countAndBound 32 (4294967294 ∷ 0 ∷ 0 ∷ []) gives (64 ∷ 8 ∷ []) ∷
-    -- 4 lines and 3 gates: S = 7 where none has a control, and 8 where one has; 4 gates without a control: 8
-    countAndBound 4 (0 ∷ 0 ∷ 0 ∷ 0 ∷ 0 ∷ 1 ∷ 0 ∷ 0 ∷ 2 ∷ []) gives (7 ∷ 4 ∷ []) ∷
-    compactSetTells 4 (0 ∷ 0 ∷ 0 ∷ 0 ∷ 0 ∷ 1 ∷ 0 ∷ 0 ∷ 2 ∷ []) (9 ∷ 9 ∷ 9 ∷ []) tells refused 10 0 ∷
-    compactSetTells 4 (0 ∷ 0 ∷ 0 ∷ 0 ∷ 0 ∷ 1 ∷ 0 ∷ 0 ∷ 2 ∷ []) (9 ∷ 9 ∷ 9 ∷ 9 ∷ []) tells answered (2 ∷ []) ∷
-    compactSetLeaves 4 (0 ∷ 0 ∷ 0 ∷ 0 ∷ 0 ∷ 1 ∷ 0 ∷ 0 ∷ 2 ∷ []) (9 ∷ 9 ∷ 9 ∷ 9 ∷ []) gives (0 ∷ 15 ∷ 9 ∷ 9 ∷ []) ∷
+    -- 4 lines and 3 gates: S = 7 where none has a control; 8 where one has, or with a line or a gate more
+    countAndBound 4 inTurn gives (7 ∷ 4 ∷ []) ∷
+    compactSetTells 4 inTurn (9 ∷ 9 ∷ 9 ∷ []) tells refused 10 0 ∷
+    compactSetTells 4 inTurn (9 ∷ 9 ∷ 9 ∷ 9 ∷ []) tells answered (2 ∷ []) ∷
+    compactSetLeaves 4 inTurn (9 ∷ 9 ∷ 9 ∷ 9 ∷ []) gives (0 ∷ 15 ∷ 9 ∷ 9 ∷ []) ∷
     countAndBound 4 (0 ∷ 0 ∷ 0 ∷ 0 ∷ 0 ∷ 1 ∷ 8 ∷ 0 ∷ 2 ∷ []) gives (8 ∷ 5 ∷ []) ∷
     firstOf (compactRows 4 (0 ∷ 0 ∷ 0 ∷ 0 ∷ 0 ∷ 1 ∷ 8 ∷ 0 ∷ 2 ∷ []) 4) (answered []) tells refused 10 0 ∷
     firstOf (compactRows 4 (0 ∷ 0 ∷ 0 ∷ 0 ∷ 0 ∷ 1 ∷ 8 ∷ 0 ∷ 2 ∷ []) 5) (answered []) tells answered [] ∷
-    countAndBound 4 (0 ∷ 0 ∷ 0 ∷ 0 ∷ 0 ∷ 1 ∷ 0 ∷ 0 ∷ 2 ∷ 0 ∷ 0 ∷ 3 ∷ []) gives (8 ∷ 5 ∷ []) ∷
-    firstOf (compactRows 4 (0 ∷ 0 ∷ 0 ∷ 0 ∷ 0 ∷ 1 ∷ 0 ∷ 0 ∷ 2 ∷ 0 ∷ 0 ∷ 3 ∷ []) 4) (answered []) tells refused 10 0 ∷
-    firstOf (compactRows 4 (0 ∷ 0 ∷ 0 ∷ 0 ∷ 0 ∷ 1 ∷ 0 ∷ 0 ∷ 2 ∷ 0 ∷ 0 ∷ 3 ∷ []) 5) (answered []) tells answered [] ∷
+    countAndBound 5 inTurn gives (8 ∷ 5 ∷ []) ∷
+    firstOf (compactRows 5 inTurn 4) (answered []) tells refused 10 0 ∷
+    firstOf (compactRows 5 inTurn 5) (answered []) tells answered [] ∷
+    countAndBound 4 (inTurn ++ (0 ∷ 0 ∷ 3 ∷ [])) gives (8 ∷ 5 ∷ []) ∷
     -- picks go by sites alone: after 0, inputs 1 and 3 catch 4 faults each, and line 1 is no site of level 1
     compactSetLeaves 2 (0 ∷ 0 ∷ 0 ∷ 1 ∷ 0 ∷ 1 ∷ []) (9 ∷ 9 ∷ 9 ∷ 9 ∷ []) gives (0 ∷ 1 ∷ 2 ∷ 9 ∷ []) ∷
     -- S = 1, 2, 3, 4, 7 and 8
