@@ -9,7 +9,7 @@ use Rattle.words.specs.Inverse.{inverse}
 use Rattle.words.specs.WordOf.{wordOf, lacking, loneZero}
 use Rattle.refusals.specs.Places.{firstBadFrom, inWord}
 use Rattle.circuit.specs.Gates.{gatesOf, gateAt, noGate}
-use Rattle.circuit.specs.Controls.{isControl, lessControl, moreControl, isOther}
+use Rattle.circuit.specs.Controls.{isControl, lessControl, moreControl, touches, isOther}
 use Rattle.circuit.specs.Runs.{fires, step, run, forward, backward}
 use Rattle.circuit.specs.Rules.{
   badLines,
@@ -99,8 +99,8 @@ pub every-border : Borders
 unfolding answerTable circuitTable faultTable meaningTable multipleTable judgeTable dropTable setTable job bareJob readTable writeTable
     reportTable formTable gateTable exportTable orderTable jobOrderTable longTable longOrderTable longTextTable sampleWords sampleJob
     upFrom keep each some sumFrom bit flip force allOn allOnes linesOn inverse wordOf lacking loneZero firstBadFrom inWord
-    gatesOf gateAt noGate isControl lessControl moreControl isOther fires step run forward backward badGate firstBadGate firstBadVector
-    circuitSetRows circuitRows setRows vectorRows levelRows runRows
+    gatesOf gateAt noGate isControl lessControl moreControl touches isOther fires step run forward backward badGate firstBadGate
+    firstBadVector circuitSetRows circuitRows setRows vectorRows levelRows runRows
     forceAt stuckRun without changed faulty caught sites isStuckAt isGate isMissingGate isMissingControl isExtraControl isFault noFault
     faultRows catchRows testRows faultsOf firstBadRecord caughtTogether badEntry sameSite siteTwice entriesRows multipleRows
     testLevel lineAtZero testState testFor

@@ -8,6 +8,7 @@ use Rattle.proved_samples.specs.Sample.{sampleWords}
 use Rattle.borders.specs.Rows.{Row, fault}
 use Rattle.borders.specs.Rows.Row.{_tells_, _gives_}
 use Rattle.dropping.specs.Promises.{dropTells, dropLeaves, dropRecordsTells, dropRecordsLeaves}
+use Rattle.borders.specs.Faults.{inTurn}
 
 -- gate 1 missing, level 0 line 0 stuck at 0, gate 1 without control 0: vector 3 catches the first two, vector 7 too, vector 0 none
 abbrev pub three : List ℕ
@@ -35,11 +36,24 @@ dropTable =
     dropTells 3 sampleWords 3 (2 ∷ 1 ∷ 0 ∷ 0 ∷ 0 ∷ 0 ∷ 0 ∷ 0 ∷ []) tells refused 9 2 ∷
     dropTells 3 sampleWords 3 (2 ∷ 1 ∷ 0 ∷ 0 ∷ 2 ∷ 3 ∷ 0 ∷ 0 ∷ 5 ∷ 1 ∷ 0 ∷ 0 ∷ []) tells refused 9 2 ∷
     dropTells 3 sampleWords 3 (2 ∷ 1 ∷ 0 ∷ 0 ∷ 2 ∷ 2 ∷ 0 ∷ 0 ∷ 5 ∷ 1 ∷ 0 ∷ 0 ∷ []) tells refused 9 3 ∷
+    -- a stuck line that the gate does not touch: first, second, last, and before or after another bad record
+    dropTells 3 sampleWords 3 (1 ∷ 2 ∷ 2 ∷ 0 ∷ 2 ∷ 1 ∷ 0 ∷ 0 ∷ []) tells refused 9 1 ∷
+    dropTells 3 sampleWords 3 (2 ∷ 1 ∷ 0 ∷ 0 ∷ 1 ∷ 2 ∷ 2 ∷ 0 ∷ 1 ∷ 1 ∷ 2 ∷ 0 ∷ []) tells refused 9 2 ∷
+    dropTells 3 sampleWords 3 (2 ∷ 1 ∷ 0 ∷ 0 ∷ 1 ∷ 1 ∷ 2 ∷ 0 ∷ 1 ∷ 2 ∷ 2 ∷ 0 ∷ []) tells refused 9 3 ∷
+    dropTells 3 sampleWords 3 (2 ∷ 1 ∷ 0 ∷ 0 ∷ 1 ∷ 2 ∷ 2 ∷ 0 ∷ 0 ∷ 0 ∷ 0 ∷ 0 ∷ []) tells refused 9 2 ∷
+    dropTells 3 sampleWords 3 (0 ∷ 0 ∷ 0 ∷ 0 ∷ 1 ∷ 2 ∷ 2 ∷ 0 ∷ []) tells refused 9 1 ∷
     -- classes 1 to 4, fields at their borders
-    dropTells 3 sampleWords 3 (1 ∷ 2 ∷ 2 ∷ 1 ∷ []) tells answered (1 ∷ []) ∷
-    dropTells 3 sampleWords 3 (1 ∷ 3 ∷ 2 ∷ 1 ∷ []) tells refused 9 1 ∷
+    dropTells 3 sampleWords 3 (1 ∷ 0 ∷ 2 ∷ 0 ∷ []) tells answered (1 ∷ []) ∷
+    dropTells 3 sampleWords 3 (1 ∷ 0 ∷ 3 ∷ 0 ∷ []) tells refused 9 1 ∷
+    dropTells 3 sampleWords 3 (1 ∷ 2 ∷ 0 ∷ 1 ∷ []) tells answered (1 ∷ []) ∷
+    dropTells 3 sampleWords 3 (1 ∷ 2 ∷ 1 ∷ 1 ∷ []) tells answered (0 ∷ []) ∷
+    dropTells 3 sampleWords 3 (1 ∷ 3 ∷ 1 ∷ 1 ∷ []) tells refused 9 1 ∷
+    dropTells 3 sampleWords 3 (1 ∷ 2 ∷ 2 ∷ 1 ∷ []) tells refused 9 1 ∷
     dropTells 3 sampleWords 3 (1 ∷ 2 ∷ 3 ∷ 1 ∷ []) tells refused 9 1 ∷
-    dropTells 3 sampleWords 3 (1 ∷ 2 ∷ 2 ∷ 2 ∷ []) tells refused 9 1 ∷
+    dropTells 3 sampleWords 3 (1 ∷ 2 ∷ 1 ∷ 2 ∷ []) tells refused 9 1 ∷
+    dropTells 3 inTurn 0 (1 ∷ 2 ∷ 1 ∷ 1 ∷ []) tells answered (1 ∷ []) ∷
+    dropTells 3 inTurn 0 (1 ∷ 2 ∷ 0 ∷ 1 ∷ []) tells refused 9 1 ∷
+    dropTells 3 inTurn 0 (1 ∷ 2 ∷ 2 ∷ 1 ∷ []) tells refused 9 1 ∷
     dropTells 3 sampleWords 3 (2 ∷ 0 ∷ 0 ∷ 0 ∷ []) tells refused 9 1 ∷
     dropTells 3 sampleWords 3 (2 ∷ 2 ∷ 0 ∷ 0 ∷ []) tells answered (0 ∷ []) ∷
     dropTells 3 sampleWords 3 (2 ∷ 1 ∷ 1 ∷ 0 ∷ []) tells refused 9 1 ∷
@@ -59,9 +73,12 @@ dropTable =
     dropTells 3 sampleWords 3 (2 ∷ 1 ∷ 0 ∷ 0 ∷ 2 ∷ 1 ∷ []) tells refused 9 2 ∷
     dropTells 3 sampleWords 3 (2 ∷ 1 ∷ 0 ∷ 0 ∷ 2 ∷ 1 ∷ 0 ∷ []) tells refused 9 2 ∷
     dropTells 3 sampleWords 3 (2 ∷ 3 ∷ 0 ∷ 0 ∷ 2 ∷ 1 ∷ 0 ∷ []) tells refused 9 1 ∷
+    dropTells 3 sampleWords 3 (1 ∷ 2 ∷ 2 ∷ 0 ∷ 2 ∷ []) tells refused 9 1 ∷
+    dropTells 3 sampleWords 3 (2 ∷ 1 ∷ 0 ∷ 0 ∷ 1 ∷ 2 ∷ 2 ∷ 0 ∷ 1 ∷ 1 ∷ 2 ∷ []) tells refused 9 2 ∷
     -- a refusal leaves the list
     dropLeaves 3 sampleWords 3 (2 ∷ 1 ∷ 0 ∷ 0 ∷ 2 ∷ []) gives (2 ∷ 1 ∷ 0 ∷ 0 ∷ 2 ∷ []) ∷
     dropLeaves 3 sampleWords 3 (2 ∷ 1 ∷ 0 ∷ 0 ∷ 0 ∷ 0 ∷ 0 ∷ 0 ∷ []) gives (2 ∷ 1 ∷ 0 ∷ 0 ∷ 0 ∷ 0 ∷ 0 ∷ 0 ∷ []) ∷
+    dropLeaves 3 sampleWords 3 (2 ∷ 1 ∷ 0 ∷ 0 ∷ 1 ∷ 2 ∷ 2 ∷ 0 ∷ []) gives (2 ∷ 1 ∷ 0 ∷ 0 ∷ 1 ∷ 2 ∷ 2 ∷ 0 ∷ []) ∷
     dropLeaves 3 sampleWords 8 (2 ∷ 1 ∷ 0 ∷ 0 ∷ []) gives (2 ∷ 1 ∷ 0 ∷ 0 ∷ []) ∷
     -- rules 8 and 3
     dropTells 3 sampleWords 7 three tells answered (1 ∷ []) ∷
@@ -79,6 +96,14 @@ dropTable =
     dropRecordsTells 3 sampleWords 3 (fault 0 0 0 0 ∷ []) tells refused 9 1 ∷
     dropRecordsTells 3 sampleWords 3 (fault 2 1 0 0 ∷ fault 2 3 0 0 ∷ fault 5 1 0 0 ∷ []) tells refused 9 2 ∷
     wordsOf (dropRecordsLeaves 3 sampleWords 3 (fault 2 1 0 0 ∷ fault 2 3 0 0 ∷ [])) gives (2 ∷ 1 ∷ 0 ∷ 0 ∷ 2 ∷ 3 ∷ 0 ∷ 0 ∷ []) ∷
+    dropRecordsTells 3 sampleWords 3 (fault 1 0 2 0 ∷ []) tells answered (1 ∷ []) ∷
+    dropRecordsTells 3 sampleWords 3 (fault 1 2 1 1 ∷ []) tells answered (0 ∷ []) ∷
+    dropRecordsTells 3 sampleWords 3 (fault 1 2 2 1 ∷ fault 2 1 0 0 ∷ []) tells refused 9 1 ∷
+    dropRecordsTells 3 sampleWords 3 (fault 2 1 0 0 ∷ fault 1 2 2 1 ∷ fault 5 1 0 0 ∷ []) tells refused 9 2 ∷
+    dropRecordsTells 3 sampleWords 3 (fault 2 1 0 0 ∷ fault 1 1 2 1 ∷ fault 1 2 2 1 ∷ []) tells refused 9 3 ∷
+    dropRecordsTells 3 inTurn 0 (fault 1 2 0 1 ∷ []) tells refused 9 1 ∷
+    dropRecordsTells 3 inTurn 0 (fault 1 2 2 1 ∷ []) tells refused 9 1 ∷
+    wordsOf (dropRecordsLeaves 3 sampleWords 3 (fault 2 1 0 0 ∷ fault 1 2 2 1 ∷ [])) gives (2 ∷ 1 ∷ 0 ∷ 0 ∷ 1 ∷ 2 ∷ 2 ∷ 1 ∷ []) ∷
     dropRecordsTells 3 sampleWords 7 threeRecords tells answered (1 ∷ []) ∷
     dropRecordsTells 3 sampleWords 8 threeRecords tells refused 8 1 ∷
     dropRecordsTells 0 [] 0 [] tells refused 3 0 ∷

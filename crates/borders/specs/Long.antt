@@ -3,7 +3,7 @@
 use Prim.Native.Nat.{ℕ}
 use Prim.Native.String.{String}
 use mathlib.Core.List.{List, [], _∷_, _++_}
-use lib.ListN.{take, replicate}
+use lib.ListN.{take, drop, replicate}
 use Rattle.basics.specs.Lists.{upFrom, each}
 use Rattle.refusals.specs.Tables.{Told, firstOf}
 use Rattle.refusals.specs.Tables.Told.{answered, refused}
@@ -27,15 +27,19 @@ use Rattle.real_export.specs.Promises.{exportTells}
 use Rattle.job.specs.Promises.{writeTells, writeLeaves}
 use Rattle.borders.specs.Images.{headerOf}
 use Rattle.borders.specs.Importing.{block}
-use Rattle.borders.specs.Orders.{many, bad, manyBad, known, unknown}
+use Rattle.borders.specs.Orders.{many, bad, manyBad, known, unknown, untouched}
 
 -- the most gates, each with no control and target 0
 abbrev pub most : List ℕ
 most = replicate 3072 0
 
--- 8 gates, and an entry for each of 32 lines at each of the levels 0 to 7: 256 entries, all stuck at 1
+-- the most gates, each on all of 12 lines
+abbrev pub mostOf12 : List ℕ
+mostOf12 = each (λ i. 4094 ∷ 0 ∷ 0 ∷ []) (upFrom 0 1024)
+
+-- 7 gates on all of 32 lines and one on line 0 alone, and an entry for each line at each of the levels 0 to 7: 256 entries, all stuck at 1
 abbrev pub eightGates : List ℕ
-eightGates = replicate 24 0
+eightGates = each (λ i. 4294967294 ∷ 0 ∷ 0 ∷ []) (upFrom 0 7) ++ (0 ∷ 0 ∷ 0 ∷ [])
 
 abbrev pub entries256 : List ℕ
 entries256 = each (λ level. each (λ line. 1 ∷ level ∷ line ∷ 1 ∷ []) (upFrom 0 32)) (upFrom 0 8)
@@ -55,6 +59,8 @@ longTable =
     backwardTells 1 most 1024 0 tells answered (0 ∷ []) ∷
     outputTells 1 most 0 (fault 1 1024 0 1) tells answered (1 ∷ []) ∷
     catchesTells 1 most 0 (fault 2 1024 0 0) tells answered (1 ∷ []) ∷
+    outputTells 1 most 0 (fault 1 1025 0 1) tells refused 9 1 ∷
+    outputTells 2 most 0 (fault 1 1024 1 1) tells refused 9 1 ∷
     catchesTells 1 most 0 (fault 2 1025 0 0) tells refused 9 1 ∷
     testForTells 1 most (fault 1 1024 0 0) tells answered (1 ∷ []) ∷
     catchesMultipleTells 1 most 0 (1 ∷ 1024 ∷ 0 ∷ 1 ∷ []) tells answered (1 ∷ []) ∷
@@ -65,9 +71,11 @@ longTable =
     dropRecordsTells 1 most 0 (fault 2 1024 0 0 ∷ []) tells answered (0 ∷ []) ∷
     firstOf (backwardRows 1 most 1025) (answered []) tells refused 10 0 ∷
     firstOf (backwardRows 1 most 1026) (answered []) tells answered [] ∷
-    -- S = 12 * 1,025 = 12,300
-    firstOf (compactRows 12 most 14) (answered []) tells refused 10 0 ∷
-    firstOf (compactRows 12 most 15) (answered []) tells answered [] ∷
+    -- S = 12 + 1,024 = 1,036 with one line a gate, S = 12 * 1,025 = 12,300 with all of them
+    firstOf (compactRows 12 most 11) (answered []) tells refused 10 0 ∷
+    firstOf (compactRows 12 most 12) (answered []) tells answered [] ∷
+    firstOf (compactRows 12 mostOf12 14) (answered []) tells refused 10 0 ∷
+    firstOf (compactRows 12 mostOf12 15) (answered []) tells answered [] ∷
     -- 1,025 gates are not
     forwardTells 1 (replicate 3075 0) 0 0 tells refused 5 0 ∷
     backwardTells 1 (replicate 3075 0) 0 0 tells refused 5 0 ∷
@@ -104,8 +112,10 @@ longTable =
     writeTells 1 1 (replicate 3075 0) (replicate 2048 0) (replicate 20520 9) tells refused 5 0 ∷
     writeTells 1 1 most (replicate 2049 0) (replicate 20512 9) tells refused 5 0 ∷
     -- rule 13: at most 256 entries; rule 9 comes before it also past the 256th
+    catchesMultipleTells 32 eightGates 0 (drop 4 entries256) tells answered (1 ∷ []) ∷
     catchesMultipleTells 32 eightGates 0 entries256 tells answered (1 ∷ []) ∷
     catchesMultipleTells 32 eightGates 0 (entries256 ++ (1 ∷ 8 ∷ 0 ∷ 1 ∷ [])) tells refused 13 0 ∷
+    catchesMultipleTells 32 eightGates 0 (entries256 ++ (1 ∷ 8 ∷ 1 ∷ 1 ∷ [])) tells refused 9 257 ∷
     catchesMultipleTells 32 eightGates 0 (entries256 ++ (1 ∷ 9 ∷ 0 ∷ 1 ∷ [])) tells refused 9 257 ∷
     catchesMultipleTells 32 eightGates 0 (entries256 ++ (1 ∷ 8 ∷ 0 ∷ [])) tells refused 9 257 ∷ []
 
@@ -119,12 +129,15 @@ longOrderTable =
     catchesTells 3 manyBad 0 known tells refused 5 0 ∷
     catchesTells 3 many 8 known tells refused 5 0 ∷
     catchesTells 3 many 0 unknown tells refused 5 0 ∷
+    catchesTells 3 many 0 untouched tells refused 5 0 ∷
     testForTells 3 manyBad known tells refused 5 0 ∷
     testForTells 3 many unknown tells refused 5 0 ∷
+    testForTells 3 many untouched tells refused 5 0 ∷
     -- before 7, 8, 9 and 13
     catchesMultipleTells 3 manyBad 0 (1 ∷ 0 ∷ 0 ∷ 0 ∷ []) tells refused 5 0 ∷
     catchesMultipleTells 3 many 8 (1 ∷ 0 ∷ 0 ∷ 0 ∷ []) tells refused 5 0 ∷
     catchesMultipleTells 3 many 0 (5 ∷ 0 ∷ 0 ∷ 0 ∷ []) tells refused 5 0 ∷
+    catchesMultipleTells 3 many 0 (1 ∷ 1 ∷ 2 ∷ 0 ∷ []) tells refused 5 0 ∷
     catchesMultipleTells 3 many 0 [] tells refused 5 0 ∷
     -- before 7, 8 and 9, by its gates and by its vectors
     judgeTells 3 manyBad [] 1 tells refused 5 0 ∷
@@ -140,9 +153,11 @@ longOrderTable =
     dropTells 3 manyBad 0 [] tells refused 5 0 ∷
     dropTells 3 many 8 [] tells refused 5 0 ∷
     dropTells 3 many 0 (0 ∷ 0 ∷ 0 ∷ 0 ∷ []) tells refused 5 0 ∷
+    dropTells 3 many 0 (1 ∷ 1 ∷ 2 ∷ 0 ∷ []) tells refused 5 0 ∷
     dropRecordsTells 3 manyBad 0 [] tells refused 5 0 ∷
     dropRecordsTells 3 many 8 [] tells refused 5 0 ∷
     dropRecordsTells 3 many 0 (unknown ∷ []) tells refused 5 0 ∷
+    dropRecordsTells 3 many 0 (untouched ∷ []) tells refused 5 0 ∷
     -- before 7, 11 and 10
     backwardSetTells 3 manyBad (replicate 1027 9) tells refused 5 0 ∷
     backwardSetTells 3 many [] tells refused 5 0 ∷

@@ -1,10 +1,12 @@
--- What a fault does and which vectors catch it, the test of each class's faults, and the order of each class's list, on the sample circuit.
+-- What a fault does and which vectors catch it, the test of each class's faults, the sites of each level, and the order of each class's list,
+-- on the sample circuit and a few others.
 use Prim.Native.Nat.{ℕ}
 use mathlib.Core.List.{List, [], _∷_}
 use Rattle.basics.specs.Lists.{upFrom, keep}
 use Rattle.refusals.specs.Tables.Told.{answered}
 use Rattle.simulator.specs.Faulty.{caught}
 use Rattle.faults.specs.declared.Fault.{Fault}
+use Rattle.faults.specs.Sites.{sites}
 use Rattle.faults.specs.Classes.{classFaults}
 use Rattle.dropping.specs.Dropping.{wordsOf}
 use Rattle.circuit.specs.Gates.{gatesOf}
@@ -21,6 +23,10 @@ catching f = keep (caught (gatesOf sampleWords) f) (upFrom 0 8)
 -- the faults of a class in their order, four numbers each: class, place, line, value
 abbrev pub faultsIn : ℕ → List ℕ → ℕ → List ℕ
 faultsIn n words class = wordsOf (classFaults n (gatesOf words) class)
+
+-- the lines that are sites at levels 0 and 1 of a circuit, as words
+abbrev pub sitesIn : ℕ → List ℕ → List ℕ
+sitesIn n words = sites n (gatesOf words) 0 ∷ sites n (gatesOf words) 1 ∷ []
 
 unfoldable pub meaningTable : List Row
 meaningTable =
@@ -64,12 +70,27 @@ meaningTable =
     testForTells 3 sampleWords (fault 3 1 1 0) tells answered (5 ∷ []) ∷
     testForTells 3 sampleWords (fault 3 2 0 0) tells answered (6 ∷ []) ∷
     testForTells 3 sampleWords (fault 4 2 2 0) tells answered (7 ∷ []) ∷
-    -- class 1: by level, then line, then value 0 before 1
+    -- the sites: all lines at level 0, the controls and the target of gate 1 at level 1
+    sitesIn 1 (0 ∷ 0 ∷ 0 ∷ []) gives (1 ∷ 1 ∷ []) ∷
+    sitesIn 3 (3 ∷ 0 ∷ 2 ∷ []) gives (7 ∷ 7 ∷ []) ∷
+    sitesIn 4 (0 ∷ 0 ∷ 0 ∷ []) gives (15 ∷ 1 ∷ []) ∷
+    sitesIn 4 (0 ∷ 0 ∷ 3 ∷ []) gives (15 ∷ 8 ∷ []) ∷
+    sitesIn 4 (4 ∷ 0 ∷ 1 ∷ []) gives (15 ∷ 6 ∷ []) ∷
+    sitesIn 4 (9 ∷ 0 ∷ 1 ∷ []) gives (15 ∷ 11 ∷ []) ∷
+    sitesIn 32 (0 ∷ 0 ∷ 31 ∷ []) gives (4294967295 ∷ 2147483648 ∷ []) ∷
+    sitesIn 32 (2147483648 ∷ 0 ∷ 0 ∷ []) gives (4294967295 ∷ 2147483649 ∷ []) ∷
+    sitesIn 32 (2147483646 ∷ 0 ∷ 0 ∷ []) gives (4294967295 ∷ 2147483647 ∷ []) ∷
+    sitesIn 32 (4294967294 ∷ 0 ∷ 0 ∷ []) gives (4294967295 ∷ 4294967295 ∷ []) ∷
+    -- class 1: by level, then line, control or target alike, then value 0 before 1
     faultsIn 1 [] 1 gives (1 ∷ 0 ∷ 0 ∷ 0 ∷ 1 ∷ 0 ∷ 0 ∷ 1 ∷ []) ∷
     faultsIn 3 sampleWords 1 gives (
     1 ∷ 0 ∷ 0 ∷ 0 ∷ 1 ∷ 0 ∷ 0 ∷ 1 ∷ 1 ∷ 0 ∷ 1 ∷ 0 ∷ 1 ∷ 0 ∷ 1 ∷ 1 ∷ 1 ∷ 0 ∷ 2 ∷ 0 ∷ 1 ∷ 0 ∷ 2 ∷ 1 ∷
     1 ∷ 1 ∷ 0 ∷ 0 ∷ 1 ∷ 1 ∷ 0 ∷ 1 ∷ 1 ∷ 1 ∷ 1 ∷ 0 ∷ 1 ∷ 1 ∷ 1 ∷ 1 ∷ 1 ∷ 1 ∷ 2 ∷ 0 ∷ 1 ∷ 1 ∷ 2 ∷ 1 ∷
-    1 ∷ 2 ∷ 0 ∷ 0 ∷ 1 ∷ 2 ∷ 0 ∷ 1 ∷ 1 ∷ 2 ∷ 1 ∷ 0 ∷ 1 ∷ 2 ∷ 1 ∷ 1 ∷ 1 ∷ 2 ∷ 2 ∷ 0 ∷ 1 ∷ 2 ∷ 2 ∷ 1 ∷ []) ∷
+    1 ∷ 2 ∷ 0 ∷ 0 ∷ 1 ∷ 2 ∷ 0 ∷ 1 ∷ 1 ∷ 2 ∷ 1 ∷ 0 ∷ 1 ∷ 2 ∷ 1 ∷ 1 ∷ []) ∷
+    -- on 3 lines, gate 1 with control 2 and target 0, gate 2 with no control and target 1
+    faultsIn 3 (4 ∷ 0 ∷ 0 ∷ 0 ∷ 0 ∷ 1 ∷ []) 1 gives (
+    1 ∷ 0 ∷ 0 ∷ 0 ∷ 1 ∷ 0 ∷ 0 ∷ 1 ∷ 1 ∷ 0 ∷ 1 ∷ 0 ∷ 1 ∷ 0 ∷ 1 ∷ 1 ∷ 1 ∷ 0 ∷ 2 ∷ 0 ∷ 1 ∷ 0 ∷ 2 ∷ 1 ∷
+    1 ∷ 1 ∷ 0 ∷ 0 ∷ 1 ∷ 1 ∷ 0 ∷ 1 ∷ 1 ∷ 1 ∷ 2 ∷ 0 ∷ 1 ∷ 1 ∷ 2 ∷ 1 ∷ 1 ∷ 2 ∷ 1 ∷ 0 ∷ 1 ∷ 2 ∷ 1 ∷ 1 ∷ []) ∷
     -- class 2: by gate
     faultsIn 3 [] 2 gives [] ∷
     faultsIn 3 sampleWords 2 gives (2 ∷ 1 ∷ 0 ∷ 0 ∷ 2 ∷ 2 ∷ 0 ∷ 0 ∷ []) ∷

@@ -35,7 +35,14 @@ known = fault 1 0 0 0
 abbrev pub unknown : Fault
 unknown = fault 5 0 0 0
 
--- rule 8: vector 8 of 3 lines; rule 9: class 5; rule 12: a level above d; rule 13: no entry, or a site twice
+-- a gate, and a stuck line at level 1 that neither it nor the first gate of `many` or `bad` touches
+abbrev pub one : List ℕ
+one = 1 ∷ 0 ∷ 1 ∷ []
+
+abbrev pub untouched : Fault
+untouched = fault 1 1 2 0
+
+-- rule 8: vector 8 of 3 lines; rule 9: class 5, or a line that the gate does not touch; rule 12: a level above d; rule 13: no entry, or a site twice
 unfoldable pub orderTable : List Row
 orderTable =
     -- a run: 3 5 7 8 12
@@ -54,11 +61,16 @@ orderTable =
     catchesTells 3 bad 8 known tells refused 7 1 ∷
     catchesTells 3 bad 0 unknown tells refused 7 1 ∷
     catchesTells 3 [] 8 unknown tells refused 8 1 ∷
+    catchesTells 33 one 0 untouched tells refused 3 0 ∷
+    catchesTells 3 bad 0 untouched tells refused 7 1 ∷
+    catchesTells 3 one 8 untouched tells refused 8 1 ∷
     -- the test for a fault: 3 5 7 9
     testForTells 33 many known tells refused 3 0 ∷
     testForTells 33 bad known tells refused 3 0 ∷
     testForTells 33 [] unknown tells refused 3 0 ∷
     testForTells 3 bad unknown tells refused 7 1 ∷
+    testForTells 33 one untouched tells refused 3 0 ∷
+    testForTells 3 bad untouched tells refused 7 1 ∷
     -- a multiple fault: 3 5 7 8 9 13
     catchesMultipleTells 33 many 0 (1 ∷ 0 ∷ 0 ∷ 0 ∷ []) tells refused 3 0 ∷
     catchesMultipleTells 33 bad 0 (1 ∷ 0 ∷ 0 ∷ 0 ∷ []) tells refused 3 0 ∷
@@ -71,6 +83,11 @@ orderTable =
     catchesMultipleTells 3 [] 8 (5 ∷ 0 ∷ 0 ∷ 0 ∷ []) tells refused 8 1 ∷
     catchesMultipleTells 3 [] 8 [] tells refused 8 1 ∷
     catchesMultipleTells 3 [] 0 (1 ∷ 0 ∷ 0 ∷ 0 ∷ 1 ∷ 0 ∷ 0 ∷ 0 ∷ 5 ∷ 0 ∷ 0 ∷ 0 ∷ []) tells refused 9 3 ∷
+    catchesMultipleTells 33 one 0 (1 ∷ 1 ∷ 2 ∷ 0 ∷ []) tells refused 3 0 ∷
+    catchesMultipleTells 3 bad 0 (1 ∷ 1 ∷ 2 ∷ 0 ∷ []) tells refused 7 1 ∷
+    catchesMultipleTells 3 one 8 (1 ∷ 1 ∷ 2 ∷ 0 ∷ []) tells refused 8 1 ∷
+    catchesMultipleTells 3 one 0 (1 ∷ 0 ∷ 0 ∷ 0 ∷ 1 ∷ 0 ∷ 0 ∷ 0 ∷ 1 ∷ 1 ∷ 2 ∷ 0 ∷ []) tells refused 9 3 ∷
+    catchesMultipleTells 3 one 0 (1 ∷ 1 ∷ 2 ∷ 0 ∷ 1 ∷ 1 ∷ 2 ∷ 0 ∷ []) tells refused 9 1 ∷
     -- a set and a class: 3 5 7 8 9
     judgeTells 33 many [] 1 tells refused 3 0 ∷
     judgeTells 33 [] (replicate 2049 0) 1 tells refused 3 0 ∷
@@ -98,6 +115,9 @@ orderTable =
     dropTells 3 bad 8 [] tells refused 7 1 ∷
     dropTells 3 bad 0 (0 ∷ 0 ∷ 0 ∷ 0 ∷ []) tells refused 7 1 ∷
     dropTells 3 [] 8 (0 ∷ 0 ∷ 0 ∷ 0 ∷ []) tells refused 8 1 ∷
+    dropTells 33 one 0 (1 ∷ 1 ∷ 2 ∷ 0 ∷ []) tells refused 3 0 ∷
+    dropTells 3 bad 0 (1 ∷ 1 ∷ 2 ∷ 0 ∷ []) tells refused 7 1 ∷
+    dropTells 3 one 8 (1 ∷ 1 ∷ 2 ∷ 0 ∷ []) tells refused 8 1 ∷
     -- a slice of records: 3 5 7 8 9
     dropRecordsTells 33 many 0 [] tells refused 3 0 ∷
     dropRecordsTells 33 bad 0 [] tells refused 3 0 ∷
@@ -106,6 +126,9 @@ orderTable =
     dropRecordsTells 3 bad 8 [] tells refused 7 1 ∷
     dropRecordsTells 3 bad 0 (unknown ∷ []) tells refused 7 1 ∷
     dropRecordsTells 3 [] 8 (unknown ∷ []) tells refused 8 1 ∷
+    dropRecordsTells 33 one 0 (untouched ∷ []) tells refused 3 0 ∷
+    dropRecordsTells 3 bad 0 (untouched ∷ []) tells refused 7 1 ∷
+    dropRecordsTells 3 one 8 (untouched ∷ []) tells refused 8 1 ∷
     -- the backward set: 3 5 7 10
     backwardSetTells 33 many (replicate 1027 9) tells refused 3 0 ∷
     backwardSetTells 33 bad (replicate 3 9) tells refused 3 0 ∷

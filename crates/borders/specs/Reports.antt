@@ -16,9 +16,9 @@ use Rattle.borders.specs.Images.{job, bareJob, _but_is_}
 abbrev pub lineJ : List ℕ
 lineJ = 74 ∷ 32 ∷ 51 ∷ 32 ∷ 50 ∷ 32 ∷ 51 ∷ 10 ∷ []
 
--- S 18 18 ok
+-- S 16 16 ok
 abbrev pub lineS : List ℕ
-lineS = 83 ∷ 32 ∷ 49 ∷ 56 ∷ 32 ∷ 49 ∷ 56 ∷ 32 ∷ 111 ∷ 107 ∷ 10 ∷ []
+lineS = 83 ∷ 32 ∷ 49 ∷ 54 ∷ 32 ∷ 49 ∷ 54 ∷ 32 ∷ 111 ∷ 107 ∷ 10 ∷ []
 
 -- M 2 2 ok
 abbrev pub lineM : List ℕ
@@ -46,12 +46,18 @@ reportTable =
     reportText (job but 4 is 8) gives (lineJ ++ lineX) ∷
     reportText (job but 4 is 5) gives (lineJ ++ (lineS ++ lineC)) ∷
     reportText (job but 4 is 10) gives (lineJ ++ (lineM ++ lineX)) ∷
-    -- vectors 7, 1 and 1, and the first uncaught fault by level, line and value: S 13 18 0 0 1
+    -- vectors 7, 1 and 1, and the first uncaught fault by level, line and value: S 12 16 0 0 1
     reportText (job but 52 is 7 but 56 is 1 but 60 is 1 but 4 is 1)
-    gives (lineJ ++ (83 ∷ 32 ∷ 49 ∷ 51 ∷ 32 ∷ 49 ∷ 56 ∷ 32 ∷ 48 ∷ 32 ∷ 48 ∷ 32 ∷ 49 ∷ 10 ∷ [])) ∷
-    -- vectors 0, 7 and 7: S 15 18 1 2 0
+    gives (lineJ ++ (83 ∷ 32 ∷ 49 ∷ 50 ∷ 32 ∷ 49 ∷ 54 ∷ 32 ∷ 48 ∷ 32 ∷ 48 ∷ 32 ∷ 49 ∷ 10 ∷ [])) ∷
+    -- vectors 0, 7 and 7: S 14 16 1 2 0; vectors 0, 7 and 3: S 15 16 2 1 0
     reportText (job but 56 is 7 but 60 is 7 but 4 is 1)
-    gives (lineJ ++ (83 ∷ 32 ∷ 49 ∷ 53 ∷ 32 ∷ 49 ∷ 56 ∷ 32 ∷ 49 ∷ 32 ∷ 50 ∷ 32 ∷ 48 ∷ 10 ∷ [])) ∷
+    gives (lineJ ++ (83 ∷ 32 ∷ 49 ∷ 52 ∷ 32 ∷ 49 ∷ 54 ∷ 32 ∷ 49 ∷ 32 ∷ 50 ∷ 32 ∷ 48 ∷ 10 ∷ [])) ∷
+    reportText (job but 56 is 7 but 60 is 3 but 4 is 1)
+    gives (lineJ ++ (83 ∷ 32 ∷ 49 ∷ 53 ∷ 32 ∷ 49 ∷ 54 ∷ 32 ∷ 50 ∷ 32 ∷ 49 ∷ 32 ∷ 48 ∷ 10 ∷ [])) ∷
+    -- gate 2 without its control: S 14 14 ok; both gates without controls: S 10 10 ok
+    reportText (job but 40 is 0 but 4 is 1) gives (lineJ ++ (83 ∷ 32 ∷ 49 ∷ 52 ∷ 32 ∷ 49 ∷ 52 ∷ 32 ∷ 111 ∷ 107 ∷ 10 ∷ [])) ∷
+    reportText (job but 28 is 0 but 40 is 0 but 4 is 1)
+    gives (lineJ ++ (83 ∷ 32 ∷ 49 ∷ 48 ∷ 32 ∷ 49 ∷ 48 ∷ 32 ∷ 111 ∷ 107 ∷ 10 ∷ [])) ∷
     -- vectors 1, 1 and 1, and the first uncaught by gate: M 1 2 1, then X 1 1 ok
     reportText (job but 52 is 1 but 56 is 1 but 60 is 1 but 4 is 10)
     gives (lineJ ++ (77 ∷ 32 ∷ 49 ∷ 32 ∷ 50 ∷ 32 ∷ 49 ∷ 10 ∷ 88 ∷ 32 ∷ 49 ∷ 32 ∷ 49 ∷ 32 ∷ 111 ∷ 107 ∷ 10 ∷ [])) ∷
