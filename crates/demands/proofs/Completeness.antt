@@ -13,7 +13,7 @@ use Rattle.circuit.specs.declared.Gate.{Gate}
 use Rattle.faults.specs.declared.Fault.{Fault}
 use Rattle.faults.proofs.ClassLists.{list-one}
 use Rattle.faults.proofs.SiteCount.{stuck-sites}
-use Rattle.demands.proofs.Machine.{Missed, siteTotal, Has}
+use Rattle.demands.proofs.Machine.{Circuit, Missed, siteTotal, Has}
 use Rattle.demands.proofs.MachineLaws.{circuit-ok}
 use Rattle.demands.proofs.SiteTotals.{site-total}
 use Rattle.demands.proofs.ClassLaws.{class-is}
@@ -79,10 +79,17 @@ same-list (f ∷ fs) (h ∷ hs) o p there back =
     (λ k m. not-first h k f fs (all-entry (Before h) m (p .0)) (sym same) (back k (List·Memᴰ·tail m))))
 
 -- so the faults of a class are one list
-pub class-same : {n : ℕ} {gs : List Gate} {class : ℕ} {fs hs : List Fault} → Class n gs class fs → Class n gs class hs → fs ≡ hs
+class-same : {n : ℕ} {gs : List Gate} {class : ℕ} {fs hs : List Fault} → Class n gs class fs → Class n gs class hs → fs ≡ hs
 class-same {fs = fs} {hs = hs} a b = same-list fs hs (a .ordered) (b .ordered)
     (λ k m. let is = all-entry _ m (a .each-is) in b .has-all k (is .0) (is .1))
     (λ k m. let is = all-entry _ m (b .each-is) in a .has-all k (is .0) (is .1))
+
+-- that of the stuck-at faults has two for each site
+pub stuck-at-total : {n : ℕ} {words : List ℕ} {gs : List Gate} {fs : List Fault} → Circuit n words gs → Class n gs 1 fs
+    → length fs ≡ 2 * siteTotal n gs
+stuck-at-total {n} {words} {gs} circuit theirs =
+    let ok : AllOk n gs = circuit-ok n words gs circuit in
+    ap length (class-same theirs (class-is n gs ok 1) ∙ list-one n gs 1 refl) ∙ stuck-sites n gs ∙ ap (λ m. 2 * m) (site-total n gs ok)
 
 -- what comes before an entry stands before it
 stands-before : (before : List Fault) (f : Fault) (later : List Fault) → Ordered (before ++ (f ∷ later))
@@ -173,7 +180,4 @@ module _ {n : ℕ} {words xs : List ℕ} {class : ℕ} {values : List ℕ} (w : 
   pub total-means : class ≡ 1 → (number total : ℕ) (rest : List ℕ) → values ≡ number ∷ total ∷ rest → total ≡ 2 * siteTotal n gs
   total-means one number total rest e =
       let counted = counts-mean number total rest e in
-      let ok : AllOk n gs = circuit-ok n words gs (w .circuit) in
-      let theirs : Class n gs 1 (counted .faults) = subst (λ k. Class n gs k (counted .faults)) one (counted .of-class) in
-      counted .total-is ∙ ap length (class-same theirs (class-is n gs ok 1) ∙ list-one n gs 1 refl) ∙ stuck-sites n gs
-      ∙ ap (λ m. 2 * m) (site-total n gs ok)
+      counted .total-is ∙ stuck-at-total (w .circuit) (subst (λ k. Class n gs k (counted .faults)) one (counted .of-class))

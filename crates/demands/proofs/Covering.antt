@@ -1,10 +1,11 @@
 -- What the calls of a coverage answer: begun empty it has no mark, a vector adds the marks of what it catches, and a class is counted by its marks.
 -- Begun empty and given a set's vectors in turn, a coverage ends with the verdict of the judge of that set.
-use Prim.Native.Nat.{ℕ}
+use Prim.Native.Nat.{ℕ, _*_}
 use mathlib.Core.Path.{_≡_, refl, sym, ap, _∙_, subst}
 use mathlib.Core.Bool.{true≢false}
 use mathlib.Core.List.{List, [], _∷_, _++_}
 use denote.Ref.{now}
+use lib.ListN.{length}
 use Rattle.refusals.specs.Tables.{Row, firstOf}
 use Rattle.refusals.specs.Tables.Told.{answered}
 use Rattle.refusals.specs.Checks.{fine}
@@ -26,8 +27,11 @@ use Rattle.judge.proofs.CoverLaws.{empty-sized, empty-unmarked}
 use Rattle.judge.proofs.coverage.Coverage.empty.Reads as coverage-empty
 use Rattle.judge.proofs.coverage.Coverage.with_vector.Reads as coverage-with-vector
 use Rattle.judge.proofs.coverage.Coverage.count.Reads as coverage-count
+use Rattle.demands.proofs.Machine.{Circuit, siteTotal}
+use Rattle.demands.proofs.FaultLists.{Class}
 use Rattle.demands.proofs.VerdictLaws.{toldOf}
 use Rattle.demands.proofs.Judging.{Judges, judges}
+use Rattle.demands.proofs.Completeness.{stuck-at-total}
 use Rattle.demands.proofs.Answering.{Answers, means, Ended}
 use Rattle.demands.proofs.Demand1 as refusing
 use Rattle.demands.proofs.Marks.{Unmarked, Full, Counts, Adds, marked-true, adds, counts}
@@ -65,6 +69,19 @@ pub count-means : Answers coverage-count.Post (λ κs. toldVerdict)
     (λ κs (coverage, (lines, (gates, (class, _)))) values e. Counts lines (now gates) coverage class values)
 unfolding verdict
 count-means = means refusing.coverage-count-refuses _ (λ κs a r e p. p) (λ κs a r e p u. counts _ _ _ _ (count-ok _ _ _ u .circuit))
+
+-- of the stuck-at faults it tells two for each site
+pub count-by-sites : Answers coverage-count.Post (λ κs. toldVerdict)
+    (λ κs (coverage, (lines, (gates, (class, _)))) values e. (number total : ℕ) (rest : List ℕ) → class ≡ 1 → values ≡ number ∷ total ∷ rest
+    → (gs : List Gate) × Circuit lines (now gates) gs × (total ≡ 2 * siteTotal lines gs))
+count-by-sites = record {
+  as-said = λ call values t number total rest one e.
+      let (_, (n, _)) = call .inputs in
+      let w = count-means .as-said call values t in
+      let told = w .verdict .values-are in
+      let all : total ≡ length (w .faults) = cc in
+      (w .gs, w .circuit, all ∙ stuck-at-total (w .circuit) (subst (λ k. Class n (w .gs) k (w .faults)) one (w .of-class)));
+}
 
 -- ---- begun empty and given a set's vectors in turn, each with the same circuit
 

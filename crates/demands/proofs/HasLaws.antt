@@ -29,13 +29,13 @@ use Rattle.demands.proofs.MachineLaws.{control-iff}
 
 -- ---- sites
 
-pub touches-iff : (g : Gate) (j : ℕ) → (touches g j ≡ true) ↔ Touches g j
+touches-iff : (g : Gate) (j : ℕ) → (touches g j ≡ true) ↔ Touches g j
 unfolding touches
 touches-iff g j = (
   λ t. by-test (isControl g j)
       (λ on. inl (control-iff g j .0 on))
       (λ off. inr (eqb-true j (g .target) (sym (ap (λ b. b || eqb j (g .target)) off) ∙ t))),
-  λ either. by-either either,
+  by-either,
 )
   where
     by-either : Touches g j → (isControl g j || eqb j (g .target)) ≡ true
@@ -50,13 +50,13 @@ module _ (n : ℕ) (gs : List Gate) where
       touched (suc-le-suc zero-le) hi h
       (touches-iff (gateAt gs (suc i)) j .0 (sym (gate-site n gs (suc i) j (suc-le-suc zero-le) h) ∙ on))
 
-  pub of-site : (i j : ℕ) → Site n gs i j → eqb (bit (sites n gs i) j) 1 ≡ true
+  of-site : (i j : ℕ) → Site n gs i j → eqb (bit (sites n gs i) j) 1 ≡ true
   unfolding gateAt noGate
   of-site i j (input e h) = eq-eqb (bit (sites n gs i) j) 1 (ap (λ k. bit (sites n gs k) j) e ∙ input-site n gs j h)
   of-site i j (touched lo hi h t) = gate-site n gs i j lo h ∙ touches-iff (gateAt gs i) j .1 t
 
   -- a level and a line of the circuit
-  pub site-in : (i j : ℕ) → Site n gs i j → (i ≤ length gs) × (j < n)
+  site-in : (i j : ℕ) → Site n gs i j → (i ≤ length gs) × (j < n)
   site-in i j (input e h) = (omega arith, h)
   site-in i j (touched lo hi h t) = (hi, h)
 
