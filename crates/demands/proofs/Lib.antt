@@ -30,6 +30,7 @@ pub mod Conditions
 pub mod Completeness
 pub mod PickedLaws
 pub mod Sets
+pub mod Scoring
 pub mod Dropping
 pub mod Jobs
 pub mod ValidJobs

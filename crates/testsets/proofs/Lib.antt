@@ -3,6 +3,7 @@ pub mod Changes
 pub mod TotalLaws
 pub mod SetLaws
 pub mod LeftLaws
+pub mod ScoreCall
 pub mod Halving
 pub mod Picks
 pub mod PickTurns
