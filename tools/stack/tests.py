@@ -135,6 +135,8 @@ class Tables(unittest.TestCase):
     def test_a_floor_needs_nothing_outside(self):
         self.outside["nuf_drop"] = {"memset"}
         self.assertEqual(self.wrong(), 1)
+        self.table["nuf_drop"] = Row(100, False, 0, 100)
+        self.assertEqual(self.wrong(), 1)
 
     def test_a_sum_that_is_none(self):
         self.table["nuf_judge"] = Row(8544, False, 8200, 343)
