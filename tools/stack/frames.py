@@ -61,14 +61,14 @@ def probing(body):
         if (
             [i.name for i in six] == ["mov", "sub", "sub", "movq", "cmp", "jne"]
             and bound.operands[0] == "%rsp"
-            and (bytes := constant(less.operands[0]))
+            and (taken := constant(less.operands[0]))
             and less.operands[1] == bound.operands[1]
             and page.operands == ["$0x1000", "%rsp"]
             and store.operands == ["$0x0", "(%rsp)"]
             and test.operands == [bound.operands[1], "%rsp"]
             and target(again) == page.at
         ):
-            out[k : k + 6] = [bound._replace(name="probes", operands=[bytes])] + [None] * 5
+            out[k : k + 6] = [bound._replace(name="probes", operands=[taken])] + [None] * 5
     return [i for i in out if i]
 
 

@@ -20,16 +20,16 @@ def main(what):
     stacks = Stacks(archive.functions, most_active(text))
     ways = {name: stacks.way(name) for name in archive.exported}
     if what == "show":
-        for name, (bytes, way) in sorted(ways.items()):
-            print(f"{name:<21} {bytes:>6,}  {' > '.join(way)}")
+        for name, (took, way) in sorted(ways.items()):
+            print(f"{name:<21} {took:>6,}  {' > '.join(way)}")
         return 0
-    table, measured = rows(text), {name: bytes for name, (bytes, _) in ways.items()}
+    table, measured = rows(text), {name: took for name, (took, _) in ways.items()}
     wrong = list(faults(table, measured, {name: stacks.outside(name) for name in ways}))
     for words in wrong:
         print(f"stack: {words}", file=sys.stderr)
-    for name, bytes in measured.items():
-        if name in table and bytes < table[name].bytes:
-            print(f"stack: {name} takes {bytes:,} bytes here, fewer than the {table[name].bytes:,} of docs/STACK.md")
+    for name, took in measured.items():
+        if name in table and took < table[name].bytes:
+            print(f"stack: {name} takes {took:,} bytes here, fewer than the {table[name].bytes:,} of docs/STACK.md")
     if not wrong:
         print(f"stack: none of {len(measured)} calls takes more than docs/STACK.md says")
     return 1 if wrong else 0

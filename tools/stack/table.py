@@ -19,7 +19,7 @@ def number(text):
 
 def rows(text):
     found = re.findall(r"^\| `(nuf_\w+)` \| ([\d,]+) \| (yes|no) \| ([\d,]+) \| ([\d,]+) \|", text, re.M)
-    return {name: Row(number(bytes), fits == "yes", number(arrays), number(beside)) for name, bytes, fits, arrays, beside in found}
+    return {name: Row(number(whole), fits == "yes", number(arrays), number(beside)) for name, whole, fits, arrays, beside in found}
 
 
 def most_active(text):
@@ -31,10 +31,10 @@ def faults(table, measured, outside):
     for name in sorted(table.keys() ^ measured.keys()):
         yield f"{name} is " + ("no call of the archive" if name in table else "not in the table")
     for name in sorted(table.keys() & measured.keys()):
-        row, bytes = table[name], measured[name]
-        if row.bytes < bytes:
-            yield f"{name} takes {bytes:,} bytes, and the table says {row.bytes:,}"
-        if row.fits != (bytes <= TASK and not outside[name]):
+        row, took = table[name], measured[name]
+        if row.bytes < took:
+            yield f"{name} takes {took:,} bytes, and the table says {row.bytes:,}"
+        if row.fits != (took <= TASK and not outside[name]):
             yield f"{name} fits in {TASK:,} bytes, or not, otherwise than the table says"
         if row.bytes != row.arrays + row.beside:
             yield f"{name}: the arrays and what is beside them are not the bytes of the row"

@@ -181,7 +181,7 @@ module _ (n : ℕ) (words at0 at1 : List ℕ) (x : ℕ) (sound : Sound n words) 
         count-is = promised;
       }
 
--- ---- the call
+-- ---- over the contract of `testsets::left::score`
 
 pub score-walks : (call : Ended score-call.Post) → score-call.Pre (call .lifetimes) (call .inputs)
     → let (lines, (gates, (left-0, (left-1, (vector, _))))) = call .inputs in
