@@ -15,8 +15,9 @@ STACK_POINTER = {"%rsp", "%esp", "%sp", "%spl"}
 
 
 def constant(operand):
+    """A number of 64 bits, below 0 where its highest bit is set."""
     found = re.fullmatch(r"\$(0x[0-9a-f]+)", operand)
-    return found and int(found[1], 16)
+    return found and (int(found[1], 16) ^ 1 << 63) - (1 << 63)
 
 
 def offset(operand):
@@ -42,7 +43,8 @@ def deepens(i):
         return -offset(i.operands[0])
     # a copy in %rbp would be a frame pointer, from which the red zone can be reached too
     reads = i.name in ("cmp", "test") or (i.name == "mov" and i.operands[-1] not in STACK_POINTER | {"%rbp"})
-    if i.name in ("leave", "enter", "pushf", "popf") or (not reads and STACK_POINTER & set(i.operands)):
+    other = re.match(r"push|pop(?!cnt)|leave|enter|lcall|lret|iret", i.name)
+    if other or (STACK_POINTER & set(i.operands) and not reads):
         raise NotRead(f"{i.name} {','.join(i.operands)} moves the stack pointer in a way that is not known")
     return 0
 
@@ -61,7 +63,7 @@ def probing(body):
         if (
             [i.name for i in six] == ["mov", "sub", "sub", "movq", "cmp", "jne"]
             and bound.operands[0] == "%rsp"
-            and (taken := constant(less.operands[0]))
+            and (taken := constant(less.operands[0]) or 0) > 0
             and less.operands[1] == bound.operands[1]
             and page.operands == ["$0x1000", "%rsp"]
             and store.operands == ["$0x0", "(%rsp)"]

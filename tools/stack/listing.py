@@ -52,7 +52,8 @@ def instruction(line):
         words = words[1].split(maxsplit=1)
     # commas within brackets part nothing
     operands = re.findall(r"(?:[^,(]|\([^)]*\))+", words[1]) if len(words) > 1 else []
-    return Instruction(int(at, 16), words[0], operands)
+    # some versions write the width of these, which is always the same
+    return Instruction(int(at, 16), re.sub(r"^(call|jmp|ret|push|pop)q$", r"\1", words[0]), operands)
 
 
 def functions(code):

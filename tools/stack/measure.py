@@ -1,4 +1,5 @@
 """Measures the stack of every exported call from the machine code of the archive. `show` prints it; `compare` holds it against docs/STACK.md."""
+import platform
 import sys
 from pathlib import Path
 
@@ -13,6 +14,8 @@ NOT_RUN = 77
 
 
 def main(what):
+    if not ARCHIVE.exists():
+        sys.exit(f"stack: {ARCHIVE.relative_to(ROOT)} is not there; rt staticlib nufsadeem makes it")
     text = TABLE.read_text()
     archive = read(ARCHIVE)
     if archive.pointed_at:
@@ -39,6 +42,8 @@ if __name__ == "__main__":
     try:
         sys.exit(main(sys.argv[1]))
     except NoDisassembler as why:
+        if platform.machine() == "x86_64":  # whose own one would read it
+            sys.exit(f"stack: {why}")
         print(f"stack: NOT RUN on this machine: {why}", file=sys.stderr)
         sys.exit(NOT_RUN)
     except NotRead as why:

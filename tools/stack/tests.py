@@ -33,6 +33,10 @@ class Frames(unittest.TestCase):
     def test_what_is_pushed_and_taken(self):
         self.assertEqual(frame("push %rbx\n sub $0x20,%rsp\n add $0x20,%rsp\n pop %rbx\n ret").deepest, 8 + 8 + 32)
         self.assertEqual(frame("lea -0x18(%rsp),%rsp\n lea 0x18(%rsp),%rsp\n ret").deepest, 8 + 24)
+        self.assertEqual(frame("add $0xffffffffffffff80,%rsp\n sub $0xffffffffffffff80,%rsp\n ret").deepest, 8 + 128)
+
+    def test_names_with_a_width(self):
+        self.assertEqual(frame("pushq 0x8(%rsp)\n callq 0 <f> @ .text.g\n popq %rax\n popcnt %rax,%rax\n retq").deepest, 8 + 8)
 
     def test_below_the_stack_pointer(self):
         self.assertEqual(frame("mov %eax,-0x14(%rsp)\n ret").deepest, 8 + 20)
@@ -56,6 +60,8 @@ class Frames(unittest.TestCase):
             "mov %rax,%rsp\n ret",
             "push %rbp\n mov %rsp,%rbp\n pop %rbp\n ret",
             "leave\n ret",
+            "pushw %ax\n ret",
+            "lret",
             "push %rax\n ret",  # it would return to %rax
             "ret $0x8",
             "je 20 <f+0x20>\n push %rax\n nop\n ret",  # two depths at one place
