@@ -123,7 +123,9 @@ class Frame:
             return []
         goes = [] if i.name == "jmp" else further
         if i.symbol:  # the rest is another function, which returns to where this one would
-            self.calls.add((depth - WORD, i.symbol))
+            if depth != WORD:
+                self.refuse(i, f"it goes on elsewhere with {depth} bytes on the stack")
+            self.calls.add((0, i.symbol))
             return goes
         if target(i) not in self.places:
             self.refuse(i, "it jumps out of the function")

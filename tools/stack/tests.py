@@ -64,6 +64,7 @@ class Frames(unittest.TestCase):
             "lret",
             "push %rax\n ret",  # it would return to %rax
             "ret $0x8",
+            "push %rax\n jmp 0 <f> @ .text.g",
             "je 20 <f+0x20>\n push %rax\n nop\n ret",  # two depths at one place
             "push %rax\n jmp 0 <f>",  # deeper in each turn
             "call *%rax\n ret",
