@@ -219,7 +219,7 @@ static void ask(uint32_t class_)
             in.fault = in.list[i];
 }
 
-/* Breaks rules, for a call no more than one at a time, so that each of them comes to be told. */
+/* Breaks rules, for a call no more than one at a time, so that each of them comes to be told; 11 is told of circuits above. */
 enum { WAYS = 8 };
 static void spoil(int way)
 {
@@ -228,8 +228,8 @@ static void spoil(int way)
     case 1: in.gates_len = 3 * (GATES + 1), in.job[0] = 0, in.text[in.text_len - 1] = 0x80; break;
     case 2: in.gates_len--, in.job[in.job_len - 1] = 0x80, in.text_len--; break;
     case 3: in.gates[in.gates_len - 1] = 32, in.job[in.job_len - 4 * VECTORS - 1] = 1, *strrchr((char *)in.text, 't') = 'v'; break;
-    case 4: in.vectors[VECTORS - 1] = in.state = UINT32_MAX; break;
-    case 5: in.level++, in.vectors_len++, in.sites_len = 0, in.list[in.list_len - 1].line = 32; break;
+    case 4: in.vectors[VECTORS - 1] = in.state = UINT32_MAX, in.job[6] = 1; break;
+    case 5: in.job[16]++, in.level++, in.vectors_len++, in.sites_len = 0, in.list[in.list_len - 1].line = 32; break;
     case 6: in.fault.class_ = 5, in.sites[in.sites_len - 1].line = 32, in.words_room = in.vectors_room = in.bytes_room = 0; break;
     case 7: in.sites[in.sites_len++] = in.sites[0]; break;
     }

@@ -11,17 +11,16 @@ use lib.Dec.{eqb}
 use borrow.Author.Tests.{eq-eqb, eqb-true}
 use denote.Ref.{now}
 use Rattle.basics.specs.Choice.{choice}
-use Rattle.basics.specs.Lists.{upFrom, keep, All}
+use Rattle.basics.specs.Lists.{keep, All}
 use Rattle.basics.specs.Sums.{sumFrom}
 use Rattle.basics.proofs.All.{all-map}
-use Rattle.basics.proofs.Lists.{length-keep, all-keep}
+use Rattle.basics.proofs.Lists.{all-keep}
 use Rattle.basics.proofs.SumLaws.{sum-cong}
 use Rattle.words.specs.Word.{bit, linesOn}
 use Rattle.words.specs.Inverse.{inverse}
 use Rattle.words.proofs.Bits.{by-bit, bit-and}
 use Rattle.words.proofs.Inverse.{not-off, not-on, bit-inverse}
 use Rattle.words.proofs.OrLaws.{bit-or}
-use Rattle.words.proofs.WordOfLaws.{bit-count}
 use Rattle.circuit.specs.Gates.{gatesOf}
 use Rattle.circuit.specs.Runs.{step, run, forward}
 use Rattle.circuit.specs.Sound.{Sound}
@@ -35,8 +34,9 @@ use Rattle.testsets.specs.Left.{leftOf, Left}
 use Rattle.testsets.specs.Sets.{score}
 use Rattle.testsets.proofs.LeftLaws.{newlyCaught, score-all}
 use Rattle.testsets.proofs.ScoreCall as score-call
-use Rattle.demands.proofs.Machine.{Makes, Circuit, Caught, Missed, Has}
+use Rattle.demands.proofs.Machine.{Makes, Circuit, Caught, Missed, onesFrom, Has}
 use Rattle.demands.proofs.MachineLaws.{makes-step, circuit-is}
+use Rattle.demands.proofs.SiteTotals.{ones-are}
 use Rattle.demands.proofs.HasLaws.{has-value}
 use Rattle.demands.proofs.FaultLists.{Class, Kept}
 use Rattle.demands.proofs.ClassLaws.{class-is}
@@ -99,12 +99,9 @@ module _ (n w0 w1 s : ℕ) where
       (λ p. by-bit w0 j (λ q. by-bit w1 j (λ r. rw (p, q, r)) (λ r. rw (p, q, r))) (λ q. by-bit w1 j (λ r. rw (p, q, r)) (λ r. rw (p, q, r))))
       (λ p. by-bit w0 j (λ q. by-bit w1 j (λ r. rw (p, q, r)) (λ r. rw (p, q, r))) (λ q. by-bit w1 j (λ r. rw (p, q, r)) (λ r. rw (p, q, r))))
 
-  newly-are : (a k : ℕ) → a + k ≤ n → length (keep (λ j. eqb (bit both j) 1) (upFrom a k)) ≡ newlyFrom w0 w1 s a k
-  unfolding upFrom keep
+  newly-are : (a k : ℕ) → a + k ≤ n → onesFrom both a k ≡ newlyFrom w0 w1 s a k
   newly-are a zero h = refl
-  newly-are a (suc k) h =
-      length-keep (λ j. eqb (bit both j) 1) a (upFrom (suc a) k)
-      ∙ ap₂ _+_ (sym (bit-count both a) ∙ bit-both a (omega arith)) (newly-are (suc a) k (omega arith))
+  newly-are a (suc k) h = ap₂ _+_ (bit-both a (omega arith)) (newly-are (suc a) k (omega arith))
 
 -- ---- all levels: a sum, as the contract counts, and the walk
 
@@ -159,7 +156,8 @@ module _ (n : ℕ) (words at0 at1 : List ℕ) (x : ℕ) (sound : Sound n words) 
       ∙ ap (sumFrom (λ k. length (linesOn n (newlyCaught n its at0 at1 x k))) 0) all
       ∙ sum-cong _ _ 0 (suc (length its)) (λ k lo hi.
       let same : k ≡ k - 0 = omega arith in
-      newly-are n (getD at0 k 0) (getD at1 k 0) (forward its k x) 0 n (omega arith) ∙ ap (λ m. newlyAt n at0 at1 k (forward its m x)) same)
+      sym (ones-are (newlyCaught n its at0 at1 x k) 0 n) ∙ newly-are n (getD at0 k 0) (getD at1 k 0) (forward its k x) 0 n (omega arith)
+      ∙ ap (λ m. newlyAt n at0 at1 k (forward its m x)) same)
 
   scores : (count : ℕ) → count ≡ score its (leftOf n its at0 at1) x → Scores n words at0 at1 x count
   unfolding score leftOf

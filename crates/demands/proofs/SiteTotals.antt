@@ -4,10 +4,12 @@ use mathlib.Core.Path.{_≡_, refl, sym, ap, ap₂, _∙_}
 use mathlib.Core.List.{List, [], _∷_}
 use native.Mathlib.Omega.{arith}
 use lib.ListN.{length, getD}
+use lib.Dec.{eqb}
 use Rattle.basics.specs.Lists.{upFrom, keep}
 use Rattle.basics.specs.Sums.{sumFrom}
 use Rattle.basics.proofs.Lists.{length-keep}
 use Rattle.basics.proofs.SumLaws.{sum-cong}
+use Rattle.words.specs.Word.{bit}
 use Rattle.words.proofs.WordOfLaws.{bit-count}
 use Rattle.circuit.specs.Gates.{gateAt, noGate}
 use Rattle.circuit.specs.Controls.{isControl}
@@ -17,22 +19,22 @@ use Rattle.faults.specs.Sites.{siteCount}
 use Rattle.faults.proofs.SiteCount.{site-count, site-count-least, site-count-most}
 use Rattle.demands.proofs.Machine.{onesFrom, siteTotal}
 
--- the controls of a gate, counted by their bits
-ones-are : (g : Gate) (a k : ℕ) → onesFrom (g .controls) a k ≡ length (keep (isControl g) (upFrom a k))
-unfolding upFrom keep isControl
-ones-are g a zero = refl
-ones-are g a (suc k) = ap₂ _+_ (bit-count (g .controls) a) (ones-are g (suc a) k) ∙ sym (length-keep (isControl g) a (upFrom (suc a) k))
+-- the lines of a word that are 1, counted by their bits
+pub ones-are : (w a k : ℕ) → onesFrom w a k ≡ length (keep (λ j. eqb (bit w j) 1) (upFrom a k))
+unfolding upFrom keep
+ones-are w a zero = refl
+ones-are w a (suc k) = ap₂ _+_ (bit-count w a) (ones-are w (suc a) k) ∙ sym (length-keep (λ j. eqb (bit w j) 1) a (upFrom (suc a) k))
 
 -- the sizes of all gates, by their numbers and in their list
 sizes-are : (n : ℕ) (gs : List Gate) (a : ℕ)
     → n + sumFrom (λ i. length (keep (isControl (getD gs (i - a) noGate)) (upFrom 0 n)) + 1) a (length gs) ≡ siteTotal n gs
-unfolding sumFrom
+unfolding sumFrom isControl
 sizes-are n [] a = omega arith
 sizes-are n (g ∷ gs) a =
     let size : Gate → ℕ = λ h. length (keep (isControl h) (upFrom 0 n)) + 1 in
     let none : a - a ≡ 0 = omega arith in
     let first : size (getD (g ∷ gs) (a - a) noGate) ≡ onesFrom (g .controls) 0 n + 1 =
-    ap (λ k. size (getD (g ∷ gs) k noGate)) none ∙ ap (λ k. k + 1) (sym (ones-are g 0 n)) in
+    ap (λ k. size (getD (g ∷ gs) k noGate)) none ∙ ap (λ k. k + 1) (sym (ones-are (g .controls) 0 n)) in
     let rest : sumFrom (λ i. size (getD (g ∷ gs) (i - a) noGate)) (suc a) (length gs)
     ≡ sumFrom (λ i. size (getD gs (i - suc a) noGate)) (suc a) (length gs) =
     sum-cong _ _ (suc a) (length gs) (λ i lo hi.
