@@ -10,7 +10,7 @@ use report_text::Reported;
 
 // A job's head.
 #[repr(C)]
-#[derive(Drop)]
+#[derive(Clone, Copy)]
 pub struct Job {
     pub number: u32,
     pub place: u32,

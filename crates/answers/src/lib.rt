@@ -1,5 +1,7 @@
 // The answers as C structs. The first two fields of each are a refusal's number and place; where the call answers both are 0, and after a
 // refusal all others are.
+#![tactic(auto)]
+
 ghost use Rattle.std.specs.Prelude.{◌≡◌, [], ◌∷◌};
 ghost use Rattle.refusals.specs.Tables.Told.{answered, refused};
 ghost use Rattle.circuit.specs.Answers.{told_ran};
@@ -22,7 +24,7 @@ pub mod verdicts;
 
 // A state.
 #[repr(C)]
-#[derive(Drop)]
+#[derive(Clone, Copy)]
 pub struct Run {
     pub number: u32,
     pub place: u32,
@@ -31,7 +33,7 @@ pub struct Run {
 
 // Whether something is caught: 1 or 0.
 #[repr(C)]
-#[derive(Drop)]
+#[derive(Clone, Copy)]
 pub struct Catch {
     pub number: u32,
     pub place: u32,
@@ -40,7 +42,7 @@ pub struct Catch {
 
 // A vector.
 #[repr(C)]
-#[derive(Drop)]
+#[derive(Clone, Copy)]
 pub struct Vector {
     pub number: u32,
     pub place: u32,
@@ -49,7 +51,7 @@ pub struct Vector {
 
 // How many vectors, bytes or records.
 #[repr(C)]
-#[derive(Drop)]
+#[derive(Clone, Copy)]
 pub struct Count {
     pub number: u32,
     pub place: u32,

@@ -10,7 +10,7 @@ use real_import::Imported;
 
 // A circuit's size.
 #[repr(C)]
-#[derive(Drop)]
+#[derive(Clone, Copy)]
 pub struct Circuit {
     pub number: u32,
     pub place: u32,

@@ -8,7 +8,7 @@ use judge::Verdict;
 
 // A verdict: `complete` is 1 or 0, and `first` the first uncaught fault.
 #[repr(C)]
-#[derive(Drop)]
+#[derive(Clone, Copy)]
 pub struct Judgement {
     pub number: u32,
     pub place: u32,

@@ -43,7 +43,7 @@ use Rattle.dropping.specs.Rules.{bad_record, record_rows, drop_rows, drop_record
 use Rattle.testsets.specs.Log2.{log2_in, log2}
 use Rattle.testsets.specs.Sets.{score, best_of, best, picks, bound, compact_set, backward_input, backward_set}
 use Rattle.testsets.specs.Rules.{backward_rows, compact_rows}
-use Rattle.bytes.specs.Bytes.{bytes_of, number_at, words_at}
+use Rattle.number_bytes.specs.Bytes.{bytes_of, number_at, words_at}
 use Rattle.job.specs.Image.{header, row_bytes, gate_count, image, lines_in, classes_in, gates_in, vectors_in, gate_words, vector_words}
 use Rattle.job.specs.Rules.{bad_classes, bad_sizes, header_rows, content_rows, read_rows, write_rows}
 use Rattle.text.specs.Texts.{ascii, every, begins, same, among, distinct, place}

@@ -17,7 +17,7 @@ use Rattle.circuit.specs.Gates.{gates_of}
 use Rattle.circuit.specs.Controls.{is_control}
 use Rattle.circuit.specs.Rules.{bad_lines, bad_counts, bad_gate, first_bad_gate, first_bad_vector}
 use Rattle.circuit.specs.declared.Gate.{Gate}
-use Rattle.bytes.specs.Bytes.{bytes_of}
+use Rattle.number_bytes.specs.Bytes.{bytes_of}
 use Rattle.job.specs.Image.{header, row_bytes, gate_count, image, lines_in, classes_in, gate_words, vector_words}
 use Rattle.job.specs.Rules.{bad_classes, content_rows, read_rows, write_rows}
 use Rattle.job.proofs.RoundTrip.{Holds, read_written, read_written_fine}

@@ -1,4 +1,6 @@
 // Circuits: gates in a flat list of words, and runs of them in both directions to a named level.
+#![tactic(auto)]
+
 ghost use Rattle.std.specs.Prelude.{◌≡◌};
 ghost use Rattle.circuit.specs.Answers.{told_ran};
 ghost use Rattle.circuit.specs.Promises.{forward_tells, backward_tells};
@@ -11,7 +13,7 @@ pub mod numbers;
 pub mod rules;
 
 // One gate: a mask of control lines, a spare word, and the target line.
-#[derive(Drop)]
+#[derive(Clone, Copy)]
 pub struct Gate {
     pub controls: u32,
     pub spare: u32,
@@ -19,7 +21,7 @@ pub struct Gate {
 }
 
 // What a run answers.
-#[derive(Drop)]
+#[derive(Clone, Copy)]
 pub enum Ran {
     State(u32),
     Refused(Refusal),

@@ -3,11 +3,11 @@ ghost use Rattle.std.specs.Prelude.{◌≡◌, ◌+◌, ◌<◌, eqb};
 ghost use Rattle.circuit.specs.Limits.{most_gates};
 
 // The number of a gate, from 1.
-#[derive(Drop)]
+#[derive(Clone, Copy)]
 pub struct GateNumber(usize);
 
 // The number of a level, from 0: level 0 is the input, level i the state after gate i.
-#[derive(Drop)]
+#[derive(Clone, Copy)]
 pub struct LevelNumber(usize);
 
 // The level of a number.

@@ -8,7 +8,7 @@ use mathlib.Core.List.{List}
 use native.Mathlib.Omega.{arith}
 use lib.ListN.{length, take}
 use Rattle.job.specs.Image.{image, lines_in, classes_in, gates_in, vectors_in, gate_words, vector_words, gate_count}
-use Rattle.bytes.proofs.NumberLaws.{Bytes}
+use Rattle.number_bytes.proofs.NumberLaws.{Bytes}
 use Rattle.circuit.proofs.WordLaws.{words-whole}
 use Rattle.job.proofs.WriteLaws.{write_ok}
 use Rattle.job.proofs.RoundTrip.{read_written, read_written_fine, written_read}

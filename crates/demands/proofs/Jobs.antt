@@ -14,13 +14,13 @@ use Rattle.circuit.specs.Rules.{first_bad_gate, first_bad_vector, circuit_set_ro
 use Rattle.circuit.specs.declared.Gate.{Gate}
 use Rattle.circuit.proofs.GateLaws.{gates_count}
 use Rattle.circuit.proofs.RuleLaws.{lines_good, counts_good, VectorsOk, vectors_ok}
-use Rattle.bytes.specs.Bytes.{bytes_of}
+use Rattle.number_bytes.specs.Bytes.{bytes_of}
 use Rattle.job.specs.Image.{header, row_bytes, gate_count, image, lines_in, classes_in, gates_in, vectors_in, gate_words, vector_words}
 use Rattle.job.specs.Rules.{read_rows, write_rows}
 use Rattle.job.specs.Answers.{told_read, told_written}
 use Rattle.job.proofs.ReadLaws.{read_ok}
 use Rattle.job.proofs.WriteLaws.{write_ok}
-use Rattle.bytes.proofs.ByteLaws.{length-words}
+use Rattle.number_bytes.proofs.ByteLaws.{length-words}
 use Rattle.job.proofs.RoundTrip.{written_read}
 use Rattle.job.proofs.read_job.Reads as read-job
 use Rattle.job.proofs.write_job.Reads as write-job

@@ -21,7 +21,7 @@ use Rattle.multiple_faults.specs.Multiple.{bad_entry}
 use Rattle.faults.specs.declared.Fault.{Fault}
 use Rattle.faults.specs.Classes.{is_class}
 use Rattle.dropping.specs.Rules.{bad_record}
-use Rattle.bytes.specs.Bytes.{number_at, words_at}
+use Rattle.number_bytes.specs.Bytes.{number_at, words_at}
 use Rattle.job.specs.Image.{gates_in, vectors_in}
 use Rattle.job.specs.Rules.{bad_classes, bad_sizes}
 use Rattle.demands.proofs.Machine.{Control, Has}

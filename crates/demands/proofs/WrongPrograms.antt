@@ -38,7 +38,7 @@ use Rattle.testsets.proofs.compact_set.Reads as compact-set
 use Rattle.testsets.specs.Log2.{log2_in, log2}
 use Rattle.testsets.specs.Sets.{score, best_of, best, picks, bound, compact_set}
 use Rattle.testsets.specs.Rules.{compact_rows}
-use Rattle.bytes.specs.Bytes.{number_at, words_at}
+use Rattle.number_bytes.specs.Bytes.{number_at, words_at}
 use Rattle.job.specs.Image.{lines_in, classes_in, gates_in, vectors_in, gate_words, vector_words}
 use Rattle.job.specs.Rules.{bad_classes, bad_sizes, read_rows, header_rows, content_rows}
 use Rattle.job.specs.Answers.{told_read}

@@ -1,1 +1,3 @@
 // The demands as theorems; no code.
+#![tactic(auto)]
+

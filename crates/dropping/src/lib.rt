@@ -1,4 +1,6 @@
 // Dropping: a lent list of fault records loses the faults that a vector catches.
+#![tactic(auto)]
+
 ghost use Rattle.std.specs.Prelude.{◌≡◌};
 ghost use Rattle.refusals.specs.Places.{in_word};
 ghost use Rattle.dropping.specs.Promises.{drop_tells, drop_leaves, drop_records_tells, drop_records_leaves};
@@ -14,7 +16,7 @@ pub mod checked;
 pub mod rules;
 
 // The number of records left.
-#[derive(Drop)]
+#[derive(Clone, Copy)]
 pub enum Dropped {
     Left(u32),
     Refused(Refusal),

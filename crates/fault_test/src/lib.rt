@@ -1,4 +1,6 @@
 // The test for one fault.
+#![tactic(auto)]
+
 ghost use Rattle.std.specs.Prelude.{◌≡◌};
 ghost use Rattle.fault_test.specs.Answers.{told_test};
 ghost use Rattle.fault_test.specs.Promises.{test_for_tells};
@@ -10,7 +12,7 @@ mod checked;
 mod rules;
 
 // A vector that catches a fault.
-#[derive(Drop)]
+#[derive(Clone, Copy)]
 pub enum Test {
     Vector(u32),
     Refused(Refusal),

@@ -17,7 +17,7 @@ use Rattle.refusals.proofs.Tables.{fine_row}
 use Rattle.circuit.specs.Limits.{most_lines, most_gates, most_vectors}
 use Rattle.circuit.specs.Rules.{bad_lines, bad_counts}
 use Rattle.circuit.proofs.RuleLaws.{lines_right, counts_right}
-use Rattle.bytes.specs.Bytes.{number_at}
+use Rattle.number_bytes.specs.Bytes.{number_at}
 use Rattle.job.specs.Image.{header_length, past_gates, past_vectors, lines_in, classes_in, gates_in, vectors_in}
 use Rattle.job.specs.Rules.{bad_classes, bad_sizes, header_rows}
 

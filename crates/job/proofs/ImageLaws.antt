@@ -7,11 +7,11 @@ use lib.ListN.{length, take, drop, length-append}
 use lib.Seq.{sets, take_at, length-take-le}
 use Rattle.basics.specs.Lists.{each, onto}
 use Rattle.basics.proofs.Lists.{length-each}
-use Rattle.bytes.specs.Bytes.{bytes_of, words_at}
+use Rattle.number_bytes.specs.Bytes.{bytes_of, words_at}
 use Rattle.job.specs.Image.{header_length, past_gates, past_vectors, header, row_bytes, gate_count, image}
 use Rattle.job.specs.Image.{gates_in, vectors_in, gate_words, vector_words}
 use Rattle.basics.proofs.PutLaws.{sets-append, sets_front}
-use Rattle.bytes.proofs.ByteLaws.{length_bytes, length-words}
+use Rattle.number_bytes.proofs.ByteLaws.{length_bytes, length-words}
 
 -- ---- lengths
 

@@ -15,7 +15,7 @@ use Rattle.refusals.specs.Tables.Row.{refuse◌at◌when◌}
 use Rattle.refusals.specs.Tables.Told.{refused}
 use Rattle.refusals.specs.Checks.{fine}
 use Rattle.refusals.proofs.Tables.{refused_on}
-use Rattle.bytes.specs.Bytes.{number_at}
+use Rattle.number_bytes.specs.Bytes.{number_at}
 use Rattle.job.specs.Image.{longest_job, lines_in, classes_in, gates_in, vectors_in}
 use Rattle.circuit.specs.Rules.{bad_lines, bad_counts}
 use Rattle.job.specs.Rules.{bad_classes, bad_sizes, header_rows, read_rows}

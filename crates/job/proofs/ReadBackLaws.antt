@@ -10,7 +10,7 @@ use Rattle.refusals.specs.Checks.{fine}
 use Rattle.circuit.specs.Rules.{first_bad_gate, first_bad_vector, bad_lines, bad_counts}
 use Rattle.job.specs.Image.{lines_in, classes_in, gates_in, vectors_in, gate_words, vector_words, gate_count, image}
 use Rattle.job.specs.Rules.{bad_classes, read_rows, write_rows, content_rows}
-use Rattle.bytes.proofs.ByteLaws.{length-words}
+use Rattle.number_bytes.proofs.ByteLaws.{length-words}
 use Rattle.job.proofs.WriteLaws.{JobOk}
 use Rattle.job.proofs.ReadLaws.{read_ok}
 

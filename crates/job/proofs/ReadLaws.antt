@@ -16,7 +16,7 @@ use Rattle.refusals.specs.declared.Checked.{Checked}
 use Rattle.refusals.proofs.Tables.{refused_on, fine_on, fine_row, fine-parts}
 use Rattle.circuit.specs.Rules.{first_bad_gate, first_bad_vector, circuit_set_rows, set_rows}
 use Rattle.circuit.proofs.RuleLaws.{VectorsOk, vectors_ok, lines_good, counts_good, set-fine}
-use Rattle.bytes.specs.Bytes.{number_at}
+use Rattle.number_bytes.specs.Bytes.{number_at}
 use Rattle.job.specs.Image.{header_length, past_gates, past_vectors, lines_in, classes_in, gates_in, vectors_in, gate_words, vector_words}
 use Rattle.job.specs.Rules.{bad_classes, bad_sizes, bad_room, header_rows, content_rows, content_rows_in, room_rows, read_rows}
 use Rattle.job.specs.Turns.{sooner}

@@ -12,12 +12,12 @@ use Rattle.refusals.specs.Tables.{first_of}
 use Rattle.refusals.specs.Checks.{fine}
 use Rattle.circuit.specs.Rules.{first_bad_gate, first_bad_vector}
 use Rattle.circuit.proofs.WordLaws.{words_fit, words-whole, vectors_fit}
-use Rattle.bytes.specs.Bytes.{bytes_of, number_at, words_at}
+use Rattle.number_bytes.specs.Bytes.{bytes_of, number_at, words_at}
 use Rattle.job.specs.Image.{header_length, past_gates, past_vectors, header, row_bytes, gate_count, image}
 use Rattle.job.specs.Image.{lines_in, classes_in, gates_in, vectors_in, gate_words, vector_words}
 use Rattle.job.specs.Rules.{read_rows, write_rows}
 use Rattle.job.proofs.ImageLaws.{length-header, length_words_bytes, length-image, length-gate_words, length-vector_words}
-use Rattle.bytes.proofs.NumberLaws.{Bytes, words_there, words_on}
+use Rattle.number_bytes.proofs.NumberLaws.{Bytes, words_there, words_on}
 use Rattle.job.proofs.RowLaws.{Placed, Stands, rows_there, rows_on}
 use Rattle.job.proofs.HeaderLaws.{HeaderOk}
 use Rattle.job.proofs.ReadLaws.{ReadOk, read_ok, ok_read}

@@ -5,9 +5,9 @@ use mathlib.Core.List.{List, [], ◌∷◌, ◌++◌, append_assoc}
 use native.Mathlib.Omega.{arith}
 use lib.ListN.{length, drop, length-append}
 use Rattle.basics.specs.Lists.{each, All}
-use Rattle.bytes.specs.Bytes.{bytes_of, number_at}
-use Rattle.bytes.proofs.ByteLaws.{length_bytes}
-use Rattle.bytes.proofs.NumberLaws.{Bytes, number_skip, bytes_number, number_on}
+use Rattle.number_bytes.specs.Bytes.{bytes_of, number_at}
+use Rattle.number_bytes.proofs.ByteLaws.{length_bytes}
+use Rattle.number_bytes.proofs.NumberLaws.{Bytes, number_skip, bytes_number, number_on}
 use Rattle.job.specs.Image.{HeaderRow, row_bytes}
 use Rattle.job.specs.Image.HeaderRow.{byte◌wide◌holds◌}
 

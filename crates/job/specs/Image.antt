@@ -2,7 +2,7 @@
 use Rattle.std.specs.Prelude.{ℕ, ◌+◌, ◌*◌, ◌/◌, List, [], ◌∷◌, ◌++◌, length}
 use Rattle.basics.specs.Lists.{each}
 use Rattle.circuit.specs.Limits.{most_gates, most_vectors}
-use Rattle.bytes.specs.Bytes.{bytes_of, number_at, words_at}
+use Rattle.number_bytes.specs.Bytes.{bytes_of, number_at, words_at}
 
 -- how many bytes the header has
 abbrev pub header_length : ℕ

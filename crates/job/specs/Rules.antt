@@ -3,7 +3,7 @@ use Rattle.std.specs.Prelude.{ℕ, ◌*◌, Bool, not, ◌||◌, List, [], ◌�
 use Rattle.refusals.specs.Tables.{Row}
 use Rattle.refusals.specs.Tables.Row.{refuse◌at◌when◌}
 use Rattle.circuit.specs.Rules.{bad_lines, bad_counts, first_bad_gate, first_bad_vector}
-use Rattle.bytes.specs.Bytes.{number_at}
+use Rattle.number_bytes.specs.Bytes.{number_at}
 use Rattle.job.specs.Image.{header_length, past_gates, past_vectors, gate_count, image}
 use Rattle.job.specs.Image.{lines_in, classes_in, gates_in, vectors_in, gate_words, vector_words}
 

@@ -2,7 +2,7 @@
 ghost use Rattle.std.specs.Prelude.{◌≡◌, ◌≤◌, length};
 ghost use Rattle.job.specs.Image.{header_length, lines_in, classes_in, gates_in, vectors_in};
 
-use bytes::checked::{number_at_2, number_at_4};
+use number_bytes::checked::{number_at_2, number_at_4};
 
 // The number of lines.
 pub fn lines_in(image: &[u8]) -> u32

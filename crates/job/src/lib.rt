@@ -1,4 +1,6 @@
 // The job image: jobs read out of bytes and written into bytes.
+#![tactic(auto)]
+
 ghost use Rattle.std.specs.Prelude.{◌≡◌, ◌*◌, ◌≤◌, length};
 ghost use Rattle.circuit.specs.Limits.{most_gates, most_vectors};
 ghost use Rattle.job.specs.Promises.{read_tells, read_leaves_gates, read_leaves_vectors, write_tells, write_leaves};
@@ -15,7 +17,7 @@ pub mod wanted;
 mod writing;
 
 // A job that was read: its lines, the classes wanted, its numbers of gates and vectors.
-#[derive(Drop)]
+#[derive(Clone, Copy)]
 pub enum Read {
     Job {
         lines: u32,
@@ -27,7 +29,7 @@ pub enum Read {
 }
 
 // The number of bytes written.
-#[derive(Drop)]
+#[derive(Clone, Copy)]
 pub enum Written {
     Bytes(u32),
     Refused(Refusal),

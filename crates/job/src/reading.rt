@@ -8,7 +8,7 @@ ghost use Rattle.job.specs.Rules.{read_rows};
 
 use crate::limits::HEADER;
 use crate::{Read, header};
-use bytes::checked::read_words;
+use number_bytes::checked::read_words;
 
 // The gates and the vectors of an image that holds as many as its header says.
 pub fn read_lists(image: &[u8], gates: &mut [u32], vectors: &mut [u32])

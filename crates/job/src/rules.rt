@@ -3,14 +3,14 @@ ghost use Rattle.std.specs.Prelude.{◌≡◌, not, ◌||◌, ◌*◌, ◌/◌, 
 ghost use Rattle.refusals.specs.Tables.{first_of};
 ghost use Rattle.refusals.specs.Checks.{fine, found};
 ghost use Rattle.circuit.specs.Limits.{most_lines, most_gates, most_vectors};
-ghost use Rattle.bytes.specs.Bytes.{number_at};
+ghost use Rattle.number_bytes.specs.Bytes.{number_at};
 ghost use Rattle.job.specs.Image.{header_length, classes_in};
 ghost use Rattle.job.specs.Rules.{bad_classes, bad_sizes, bad_room, header_rows, content_rows, content_rows_in, read_rows, write_rows};
 ghost use Rattle.job.specs.Turns.{sooner};
 
 use crate::limits::HEADER;
 use crate::{header, reading};
-use bytes::checked::{number_at_2, number_at_4};
+use number_bytes::checked::{number_at_2, number_at_4};
 use circuit;
 use circuit::rules::{bad_counts, bad_lines};
 use refusals;

@@ -6,7 +6,7 @@ ghost use Rattle.circuit.specs.Limits.{most_gates, most_vectors};
 ghost use Rattle.job.specs.Image.{header_length, header, row_bytes, gate_count, image};
 
 use crate::limits::HEADER;
-use bytes::checked::{put_2, put_words};
+use number_bytes::checked::{put_2, put_words};
 
 // The header of a job.
 fn put_header(out: &mut [u8], lines: u32, classes: u32, gates: u32, vectors: u32)

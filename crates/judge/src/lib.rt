@@ -1,4 +1,6 @@
 // Judging: coverage so far, and the verdict on a set of vectors for a class.
+#![tactic(auto)]
+
 ghost use Rattle.std.specs.Prelude.{◌≡◌};
 ghost use Rattle.judge.specs.Promises.{judge_tells};
 ghost use Rattle.judge.specs.Answers.{told_verdict};
@@ -13,7 +15,7 @@ mod rules;
 mod tallies;
 
 // The verdict on a set for a class.
-#[derive(Drop)]
+#[derive(Clone, Copy)]
 pub enum Verdict {
     Complete {
         caught: u32,

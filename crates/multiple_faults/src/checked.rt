@@ -46,7 +46,7 @@ fn force_level(lines: u32, gates: &[u32], entries: &[u32], level: LevelNumber, s
 }
 
 // The good state and the faulty one, side by side.
-#[derive(Drop)]
+#[derive(Clone, Copy)]
 struct Both {
     good: u32,
     faulty: u32,

@@ -1,4 +1,6 @@
 // Several stuck lines together.
+#![tactic(auto)]
+
 ghost use Rattle.std.specs.Prelude.{◌≡◌};
 ghost use Rattle.simulator.specs.Answers.{told_caught};
 ghost use Rattle.multiple_faults.specs.Promises.{catches_multiple_tells};

@@ -1,5 +1,7 @@
 // The C interface: each call of the library under a C name, its answer a struct by value. `include/nufsadeem.h` declares it.
 // An answer's fields, in their order, are the `fields` of what the wrapped call tells.
+#![tactic(auto)]
+
 ghost use Rattle.std.specs.Prelude.{◌≡◌, [], ◌∷◌};
 ghost use Rattle.circuit.specs.Promises.{forward_tells, backward_tells};
 ghost use Rattle.simulator.specs.Promises.{catches_tells};

@@ -1,4 +1,6 @@
 // Circuits written as texts of the .real form.
+#![tactic(auto)]
+
 ghost use Rattle.std.specs.Prelude.{◌≡◌};
 ghost use Rattle.real_export.specs.Answers.{told_exported};
 ghost use Rattle.real_export.specs.Promises.{export_tells, export_leaves};
@@ -10,7 +12,7 @@ mod rules;
 mod writing;
 
 // The number of bytes of the text.
-#[derive(Drop)]
+#[derive(Clone, Copy)]
 pub enum Exported {
     Bytes(u32),
     Refused(Refusal),

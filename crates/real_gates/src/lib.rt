@@ -1,4 +1,6 @@
 // The words of a gate: its token, its controls and its target.
+#![tactic(auto)]
+
 ghost use Rattle.std.specs.Prelude.{◌≡◌, ◌≤◌, length};
 ghost use Rattle.text.specs.Texts.{every, among};
 ghost use Rattle.text_words.specs.Words.{words_of};
@@ -12,21 +14,21 @@ use words;
 pub mod keys;
 
 // The token of a gate: its number of lines, or no reading.
-#[derive(Drop)]
+#[derive(Clone, Copy)]
 pub enum Token {
     Lines(usize),
     Unread,
 }
 
 // The mask of some controls, and where the words after them start; or no reading.
-#[derive(Drop)]
+#[derive(Clone, Copy)]
 pub enum Controls {
     Mask { mask: u32, at: usize },
     Unread,
 }
 
 // A gate, or no reading.
-#[derive(Drop)]
+#[derive(Clone, Copy)]
 pub enum Read {
     Gate { controls: u32, target: u32 },
     Unread,

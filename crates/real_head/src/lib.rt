@@ -1,4 +1,6 @@
 // The head of a text, up to .begin, line by line. Nothing is stored: what was read is told by places of the text.
+#![tactic(auto)]
+
 ghost use Rattle.std.specs.Prelude.{◌≡◌, ◌&&◌, false, ◌≤◌, length, eqb};
 ghost use Rattle.basics.specs.Choice.{choice};
 ghost use Rattle.text.specs.Texts.{ascii, same};
@@ -14,7 +16,7 @@ use real::spelling;
 use text_words::{runs, same};
 
 // Which line is due, and where what was read stands: the number; the names, with the parts that may come.
-#[derive(Drop)]
+#[derive(Clone, Copy)]
 pub enum Due {
     Version,
     Numvars,
@@ -33,7 +35,7 @@ pub enum Due {
 }
 
 // A line leads on, ends the head, or is refused by a number.
-#[derive(Drop)]
+#[derive(Clone, Copy)]
 pub enum Turn {
     Goes(Due),
     Begins { from: usize, to: usize },
@@ -41,7 +43,7 @@ pub enum Turn {
 }
 
 // The head: where its names stand, and where the line after .begin starts, with its number; or the first faulty line.
-#[derive(Drop)]
+#[derive(Clone, Copy)]
 pub enum Head {
     Begun {
         from: usize,

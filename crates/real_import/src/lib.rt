@@ -1,4 +1,6 @@
 // Circuits read out of texts of the .real form.
+#![tactic(auto)]
+
 ghost use Rattle.std.specs.Prelude.{◌≡◌, ◌*◌, ◌≤◌, length};
 ghost use Rattle.circuit.specs.Limits.{most_gates};
 ghost use Rattle.real.specs.Reading.{reading};
@@ -14,7 +16,7 @@ mod lines;
 mod storing;
 
 // A circuit that was read: its lines and its number of gates.
-#[derive(Drop)]
+#[derive(Clone, Copy)]
 pub enum Imported {
     Circuit { lines: u32, gates: u32 },
     Refused(Refusal),

@@ -15,21 +15,21 @@ use real_head::Head;
 use text_words::runs;
 
 // What is due, a gate or .end, or nothing more; with the number of gates so far.
-#[derive(Drop)]
+#[derive(Clone, Copy)]
 pub enum Due {
     Gate(usize),
     Nothing(usize),
 }
 
 // A line leads on, or is refused.
-#[derive(Drop)]
+#[derive(Clone, Copy)]
 pub enum Turn {
     Goes(Due),
     Faulty { number: u32, line: usize },
 }
 
 // The whole text: its number of lines and of gates; or its first faulty line.
-#[derive(Drop)]
+#[derive(Clone, Copy)]
 pub enum Form {
     Formed { lines: usize, gates: usize },
     Faulty { number: u32, line: usize },

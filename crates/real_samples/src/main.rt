@@ -1,4 +1,6 @@
 // Texts of the .real form: each is read, what was read is written and read again, and each says what was asked and what came.
+#![tactic(auto)]
+
 use real_export::Exported;
 use real_import::Imported;
 use refusals::Refusal;

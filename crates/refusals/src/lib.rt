@@ -1,4 +1,6 @@
 // Refusals: a number of the table (docs/SCOPE.md, section 6) with its place, and what a check of a table of rules finds.
+#![tactic(auto)]
+
 ghost use Rattle.std.specs.Prelude.{◌≡◌, not, [], ◌∷◌};
 ghost use Rattle.refusals.specs.Tables.{first_of};
 ghost use Rattle.refusals.specs.Tables.Row.{refuse◌at◌when◌};
@@ -6,14 +8,14 @@ ghost use Rattle.refusals.specs.Places.{in_word};
 ghost use Rattle.refusals.specs.Checks.{fine, found};
 
 // The number of a refusal and the place that is told with it.
-#[derive(Drop)]
+#[derive(Clone, Copy)]
 pub struct Refusal {
     pub number: u32,
     pub place: u32,
 }
 
 // What a check finds: no rule is broken, or the first that is.
-#[derive(Drop)]
+#[derive(Clone, Copy)]
 pub enum Checked {
     Fine,
     Wrong(Refusal),

@@ -1,5 +1,7 @@
 // The report program: one job from standard input, its report to standard output.
 // What could not be read or written it says on standard error, and an input that was not read to its end gets no report.
+#![tactic(auto)]
+
 ghost use Rattle.std.specs.Prelude.{◌≡◌, ◌≤◌, length, take};
 ghost use Rattle.io.specs.Counts.{IsPrefixLen};
 ghost use Rattle.report_text.specs.Report.{report_text, input_room};
@@ -13,7 +15,7 @@ use report_text::limits::{INPUT_ROOM, LONGEST_REPORT};
 const ROOM: usize = INPUT_ROOM;
 
 // How many bytes were read, or that a read failed.
-#[derive(Drop)]
+#[derive(Clone, Copy)]
 enum Input {
     Bytes(usize),
     Unread,

@@ -1,4 +1,6 @@
 // The report: from any bytes to the text of their verdict.
+#![tactic(auto)]
+
 ghost use Rattle.std.specs.Prelude.{◌≡◌, ◌≤◌, length};
 ghost use Rattle.std.proofs.lemmas.List.Edits.{sets};
 ghost use Rattle.circuit.specs.Limits.{most_vectors};
@@ -20,7 +22,7 @@ pub mod limits;
 mod lines;
 
 // The number of bytes of the text.
-#[derive(Drop)]
+#[derive(Clone, Copy)]
 pub enum Reported {
     Bytes(u32),
     Refused(Refusal),

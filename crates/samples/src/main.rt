@@ -1,4 +1,6 @@
 // The samples that are not proved as a table: each is run, and says what was asked and what came.
+#![tactic(auto)]
+
 use circuit::Ran;
 use job::Read;
 use judge::Verdict;

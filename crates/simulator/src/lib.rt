@@ -1,4 +1,6 @@
 // The simulator: faulty runs, and what a vector catches.
+#![tactic(auto)]
+
 ghost use Rattle.std.specs.Prelude.{◌≡◌, [], ◌∷◌};
 ghost use Rattle.basics.specs.Choice.{count};
 ghost use Rattle.refusals.specs.Tables.Told.{answered};
@@ -12,14 +14,14 @@ pub mod checked;
 mod rules;
 
 // The output of a circuit with a fault in it.
-#[derive(Drop)]
+#[derive(Clone, Copy)]
 pub enum Output {
     Word(u32),
     Refused(Refusal),
 }
 
 // Whether a vector catches a fault.
-#[derive(Drop)]
+#[derive(Clone, Copy)]
 pub enum Caught {
     Yes,
     No,

@@ -12,7 +12,7 @@ use circuit::limits::LEVELS;
 use faults::sites::site_count;
 
 // An input, and how many of the faults that are left it catches.
-#[derive(Drop)]
+#[derive(Clone, Copy)]
 pub struct Pick {
     vector: u32,
     caught: u32,

@@ -1,4 +1,6 @@
 // Test sets that catch every stuck-at fault: the backward set, and the compact set.
+#![tactic(auto)]
+
 ghost use Rattle.std.specs.Prelude.{◌≡◌};
 ghost use Rattle.testsets.specs.Promises.{backward_set_tells, backward_set_leaves, compact_set_tells, compact_set_leaves};
 ghost use Rattle.testsets.specs.Answers.{told_made};
@@ -12,7 +14,7 @@ mod limits;
 mod rules;
 
 // What the making of a set answers: how many vectors stand in the room.
-#[derive(Drop)]
+#[derive(Clone, Copy)]
 pub enum Made {
     Count(u32),
     Refused(Refusal),

@@ -1,4 +1,6 @@
 // Text as bytes: numbers in decimal, and bytes as they are. Each function answers where what it put ends.
+#![tactic(auto)]
+
 ghost use Rattle.std.specs.Prelude.{◌≡◌, ◌+◌, ◌≤◌, length};
 ghost use Rattle.std.proofs.lemmas.List.Edits.{sets};
 ghost use Rattle.text.specs.Decimal.{decimal};

@@ -1,3 +1,5 @@
 // A text as its lines, and a line as its words: where they stand, and which are the same. Nothing is stored, and no number is cut.
+#![tactic(auto)]
+
 pub mod runs;
 pub mod same;

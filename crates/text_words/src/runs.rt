@@ -4,14 +4,14 @@ ghost use Rattle.text_words.specs.Words.{is_blank, words_of};
 ghost use Rattle.text_words.specs.Runs.{in_line, is_ink, RunTo, LineAt, WordAt};
 
 // Where a line ends, and where the next one starts.
-#[derive(Drop)]
+#[derive(Clone, Copy)]
 pub struct Line {
     pub to: usize,
     pub next: usize,
 }
 
 // Where a word stands. There is none where both are the same.
-#[derive(Drop)]
+#[derive(Clone, Copy)]
 pub struct Span {
     pub from: usize,
     pub to: usize,

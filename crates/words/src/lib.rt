@@ -1,4 +1,6 @@
 // The bits of a word: bit j is the value of line j. Nothing here knows a circuit.
+#![tactic(auto)]
+
 ghost use Rattle.std.specs.Prelude.{◌≡◌, length};
 ghost use Rattle.words.specs.Word.{lines_on};
 ghost use Rattle.words.specs.WordOf.{lacking, lone_zero};

@@ -5,7 +5,7 @@ use mathlib.Core.List.{List}
 use Prim.Native.Nat.{ℕ}
 use lib.Dec.{eqb}
 use Rattle.circuit.specs.Rules.{bad_lines, bad_counts}
-use Rattle.bytes.specs.Bytes.{number_at}
+use Rattle.number_bytes.specs.Bytes.{number_at}
 use Rattle.job.specs.Image.{lines_in, classes_in, gates_in, vectors_in}
 use Rattle.job.specs.Rules.{bad_classes}
 use Rattle.job.proofs.HeaderLaws.{header_short, header_form, header_lines, header_classes, header_counts, header_sizes}

@@ -1,2 +1,0 @@
-// Numbers as bytes, the lowest byte first.
-pub mod checked;

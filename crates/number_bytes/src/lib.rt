@@ -1,0 +1,4 @@
+// Numbers as bytes, the lowest byte first.
+#![tactic(auto)]
+
+pub mod checked;

@@ -1,0 +1,16 @@
+-- `text_words::same::is_decimal` meets its contract: each turn passes the last digit of what is left. Assumes nothing.
+use Prim.Native.Nat.{◌≤◌}
+use native.Mathlib.Omega.{arith}
+use mathlib.Core.Path.{◌≡◌, sym, ap, ◌∙◌}
+use lib.ListN.{length, take}
+use lib.Seq.{take-length}
+use Rattle.text.specs.Texts.{same}
+use Rattle.text.specs.Decimal.{decimal}
+use Rattle.text_words.proofs.DigitLaws.{digits_short, digits_more, digits_other, digits_left, digits_last}
+use Rattle.text_words.proofs.same.is_decimal.Given as goal
+
+abbrev pub invariant-loop-x : goal.invariant-loop-x
+invariant-loop-x l = (l.end ≤ length l.t) × (same l.t (decimal l.number) ≡ same (take l.end l.t) (decimal l.x))
+
+abbrev pub decreases-loop-x : goal.decreases-loop-x
+decreases-loop-x l = l.x

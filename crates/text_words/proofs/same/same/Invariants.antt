@@ -1,0 +1,14 @@
+-- `text_words::same::same` meets its contract: each turn passes one byte that is the same. Assumes nothing.
+use Prim.Native.Nat.{◌-◌, ◌≤◌}
+use native.Mathlib.Omega.{arith}
+use mathlib.Core.Path.{◌≡◌, refl, sym, ◌∙◌}
+use lib.ListN.{length, drop}
+use Rattle.text.specs.Texts.{same}
+use Rattle.text.proofs.SameLaws.{same_lengths, same_more, same_other, same_end}
+use Rattle.text_words.proofs.same.same.Given as goal
+
+abbrev pub invariant-loop-i : goal.invariant-loop-i
+invariant-loop-i l = (l.i ≤ length l.a) × ((length l.a ≡ length l.b) × (same l.a l.b ≡ same (drop l.i l.a) (drop l.i l.b)))
+
+abbrev pub decreases-loop-i : goal.decreases-loop-i
+decreases-loop-i l = length l.a - l.i
