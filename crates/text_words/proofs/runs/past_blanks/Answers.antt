@@ -15,13 +15,13 @@ loop-i-init c = let a = c.args in run-start is_blank a.text.now a.at c.requires
 pub returns-then-not-is_blank : goal.returns-then-not-is_blank
 returns-then-not-is_blank c =
     let a = c.args in
-    run-stops is_blank a.text.now a.at c.loop-i.i c.loop-i.invariant (sym c.is_blank.ensures ∙ not-true _ c.if-not-is_blank.true)
+    run-stops is_blank a.text.now a.at c.loop-i.i c.loop-i.invariant (sym c.is_blank.ensures ∙ c.if-not-is_blank.true)
 
 pub loop-i-preserved : goal.loop-i-preserved
 loop-i-preserved c =
     let a = c.args in
     run_more is_blank a.text.now a.at c.loop-i.i c.loop-i.invariant (omega arith)
-    (sym c.is_blank.ensures ∙ not-false _ c.if-not-is_blank.false)
+    (sym c.is_blank.ensures ∙ c.if-not-is_blank.false)
 
 pub returns : goal.returns
 returns c =

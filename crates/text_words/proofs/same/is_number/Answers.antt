@@ -18,14 +18,14 @@ pub returns-then-not-is_digit : goal.returns-then-not-is_digit
 unfolding is_number
 returns-then-not-is_digit c =
     let a = c.args in
-    rw (c.loop-i.invariant.1 ∙ all_failed is_digit a.t.now c.loop-i.i (omega arith) (sym c.is_digit.ensures ∙ not-true _ c.if-not-is_digit.true))
+    rw (c.loop-i.invariant.1 ∙ all_failed is_digit a.t.now c.loop-i.i (omega arith) (sym c.is_digit.ensures ∙ c.if-not-is_digit.true))
 
 pub loop-i-preserved : goal.loop-i-preserved
 loop-i-preserved c =
     let a = c.args in (
       omega arith,
       c.loop-i.invariant.1 ∙ all_passed is_digit a.t.now c.loop-i.i (omega arith)
-          (sym c.is_digit.ensures ∙ not-false _ c.if-not-is_digit.false),
+          (sym c.is_digit.ensures ∙ c.if-not-is_digit.false),
     )
 
 pub returns-then-t-ne48 : goal.returns-then-t-ne48
