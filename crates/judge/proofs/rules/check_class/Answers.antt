@@ -4,28 +4,22 @@ use native.Mathlib.Omega.{arith}
 use borrow.Author.Tests.{le-leb, lt-leb}
 use Rattle.faults.specs.Classes.{is_class}
 use Rattle.judge.specs.Rules.{class_rows}
-use Rattle.judge.proofs.rules.check_class.Statement.{statement}
-use Rattle.judge.proofs.rules.check_class.Tie as tie
+use Rattle.judge.proofs.rules.check_class.Goals as goal
 
-returns : tie.Need-returns
+pub returns-in-1-to-4 : goal.returns-in-1-to-4
 unfolding class_rows is_class
-returns c =
-    let a = c.before.before.args in
-    let some : a.class ≡ 0 → ⊥ = c.before.match.rest.1 in
+returns-in-1-to-4 c =
+    let a = c.args in
     rw (le-leb 1 a.class (omega arith), le-leb a.class 4 (omega arith))
 
-returns-2 : tie.Need-returns-2
+pub returns-in-0 : goal.returns-in-0
 unfolding class_rows is_class
-returns-2 c =
-    let a = c.before.args in
-    let zero : a.class ≡ 0 = c.match.keys1 in
+returns-in-0 c =
+    let a = c.args in
     rw (lt-leb 1 a.class (omega arith))
 
-returns-3 : tie.Need-returns-3
+pub returns-in-0-2 : goal.returns-in-0-2
 unfolding class_rows is_class
-returns-3 c =
-    let a = c.before.before.args in
+returns-in-0-2 c =
+    let a = c.args in
     rw (le-leb 1 a.class (omega arith), lt-leb a.class 4 (omega arith))
-
-pub check-class-spec : {M : Type 1} → statement M
-check-class-spec = tie.close (tie.spec returns returns-2 returns-3)
