@@ -1,0 +1,22 @@
+-- `testsets::backward::make` meets its contract: after i turns the room begins with the first i + 2 vectors of the set,
+-- and the state is that of all zeros at level i.
+-- Assumes nothing.
+use Rattle.marking.proofs.Levels.{AtLevel, level_first, level_target, level_next}
+use Rattle.testsets.proofs.BackwardLaws.{backward_begin, backward_turn, backward_end, backward-length, backward_rest}
+use Prim.Native.Nat.{◌+◌, ◌-◌, ◌/◌, ◌≤◌}
+use mathlib.Core.Path.{◌≡◌, refl, ap, ◌∙◌}
+use mathlib.Core.List.{◌++◌}
+use native.Mathlib.Omega.{arith}
+use lib.ListN.{length, take, drop, set, length-set}
+use borrow.Author.Rules.{rules}
+use Rattle.circuit.specs.Gates.{gates_of}
+use Rattle.testsets.specs.Sets.{backward_set}
+use Rattle.testsets.proofs.backward.make.Given as goal
+
+abbrev pub invariant-loop-i : goal.invariant-loop-i
+invariant-loop-i l =
+    AtLevel l.gates 0 l.end l.state l.i
+    × (length l.room ≡ length l.initial.room) × (l.room ≡ take (l.i + 2) (backward_set l.lines (gates_of l.gates)) ++ drop (l.i + 2) l.initial.room)
+
+abbrev pub decreases-loop-i : goal.decreases-loop-i
+decreases-loop-i l = l.end - l.i
