@@ -10,9 +10,9 @@ ghost use Rattle.job.specs.Turns.{sooner};
 
 use crate::limits::HEADER;
 use crate::{header, reading};
-use number_bytes::checked::{number_at_2, number_at_4};
 use circuit;
 use circuit::rules::{bad_counts, bad_lines};
+use number_bytes::checked::{number_at_2, number_at_4};
 use refusals;
 use refusals::{Checked, Refusal};
 
