@@ -55,6 +55,9 @@ first_given (refuse n at q when false ∷ rows) (rule number asks words ∷ more
       λ e. inr (spelled.not_given.0 refl, others.0 e),
       λ w. ⊎_elim (λ v. absurd (false≢true ((spelled.given p).1 v.1).0)) (λ v. others.1 v.1) w,
     )
+first_given [] (_ ∷ more) spelled values k p = elim spelled [ ]
+first_given (refuse n at q when false ∷ rows) [] spelled values k p = elim spelled [ ]
+first_given (refuse n at q when true ∷ rows) [] spelled values k p = elim spelled [ ]
 
 all_kept : (rows : List Row) (asked : List Asked) → Spelled rows asked → All Unbroken rows ↔ AllKept asked
 all_kept [] [] done = (λ w. tt, λ w. tt)
@@ -63,6 +66,8 @@ all_kept (refuse n at q when broken ∷ rows) (rule number asks words ∷ more) 
       λ w. (spelled.not_given.0 w.0, others.0 w.1),
       λ w. (spelled.not_given.1 w.0, others.1 w.1),
     )
+all_kept [] (_ ∷ more) spelled = elim spelled [ ]
+all_kept (refuse n at q when broken ∷ rows) [] spelled = elim spelled [ ]
 
 -- ---- a call whose rules are these in words
 

@@ -5,4 +5,3 @@ pub mod AnswerLaws
 pub mod SameLaws
 pub mod Faults
 pub mod Checks
-pub mod Ported
