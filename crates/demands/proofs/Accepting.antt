@@ -27,7 +27,7 @@ use Rattle.judge.proofs.coverage.Coverage.count.Reads as coverage-count
 use Rattle.judge.proofs.covering.cover.Reads as cover
 use Rattle.dropping.specs.Answers.{told_dropped}
 use Rattle.dropping.proofs.drop.Reads as drop
-use Rattle.dropping.proofs.Ported.drop_records.Reads as drop-records
+use Rattle.dropping.proofs.drop_records.Reads as drop-records
 use Rattle.testsets.specs.Answers.{told_made}
 use Rattle.testsets.proofs.backward_set.Reads as backward-set
 use Rattle.testsets.proofs.compact_set.Reads as compact-set

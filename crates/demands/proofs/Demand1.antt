@@ -27,7 +27,7 @@ use Rattle.judge.proofs.covering.cover.Reads as cover
 use Rattle.dropping.specs.Rules.{record_rows, drop_rows, drop_records_rows}
 use Rattle.dropping.specs.Answers.{told_dropped}
 use Rattle.dropping.proofs.drop.Reads as drop
-use Rattle.dropping.proofs.Ported.drop_records.Reads as drop-records
+use Rattle.dropping.proofs.drop_records.Reads as drop-records
 use Rattle.testsets.specs.Rules.{backward_rows, compact_rows}
 use Rattle.testsets.specs.Answers.{told_made}
 use Rattle.testsets.proofs.backward_set.Reads as backward-set

@@ -23,9 +23,9 @@ use Rattle.dropping.specs.Rules.{drop_rows, drop_records_rows}
 use Rattle.dropping.specs.Answers.{told_dropped}
 use Rattle.dropping.proofs.RuleLaws.{drop_ok, drop_records_ok}
 use Rattle.dropping.proofs.drop.Reads as drop
-use Rattle.dropping.proofs.Ported.drop_records.Reads as drop-records
+use Rattle.dropping.proofs.drop_records.Reads as drop-records
 use Rattle.nufsadeem.proofs.nuf_drop.Reads as c-drop
-use Rattle.nufsadeem.proofs.Ported.nuf_drop_records.Reads as c-drop-records
+use Rattle.nufsadeem.proofs.nuf_drop_records.Reads as c-drop-records
 use Rattle.demands.proofs.Machine.{Circuit, Caught, Missed, Has, records}
 use Rattle.demands.proofs.MachineLaws.{circuit-is}
 use Rattle.demands.proofs.HasLaws.{has_of, records_faults}

@@ -33,7 +33,7 @@ use Rattle.judge.proofs.covering.cover.Reads as cover
 use Rattle.dropping.specs.Answers.{told_dropped}
 use Rattle.dropping.proofs.AnswerLaws.{told_dropped-one}
 use Rattle.dropping.proofs.drop.Reads as drop
-use Rattle.dropping.proofs.Ported.drop_records.Reads as drop-records
+use Rattle.dropping.proofs.drop_records.Reads as drop-records
 use Rattle.testsets.specs.Answers.{told_made}
 use Rattle.testsets.proofs.AnswerLaws.{told_made-one}
 use Rattle.testsets.proofs.backward_set.Reads as backward-set

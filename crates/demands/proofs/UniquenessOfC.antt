@@ -17,7 +17,7 @@ use Rattle.nufsadeem.proofs.nuf_test_for.Reads as test-for
 use Rattle.nufsadeem.proofs.nuf_backward_set.Reads as backward-set
 use Rattle.nufsadeem.proofs.nuf_compact_set.Reads as compact-set
 use Rattle.nufsadeem.proofs.nuf_drop.Reads as drop
-use Rattle.nufsadeem.proofs.Ported.nuf_drop_records.Reads as drop-records
+use Rattle.nufsadeem.proofs.nuf_drop_records.Reads as drop-records
 use Rattle.nufsadeem.proofs.judging.nuf_judge.Reads as judge
 use Rattle.nufsadeem.proofs.judging.nuf_cover.Reads as cover
 use Rattle.nufsadeem.proofs.jobs.nuf_read_job.Reads as read-job

@@ -2,7 +2,8 @@
 use mathlib.Core.Path.{refl}
 use mir.Syntax.{Ty}
 use denote.Enum.Declared.{row}
-use borrow.Table.Copies.{c_enum}
+use denote.Enum.Laws.{copy_row_lawss}
+use borrow.Table.Copies.{c_enum, variants_laws}
 use borrow.Table.Elements.{at_mul}
 use Rattle.walk.proofs.Walk.{Elem}
 use Rattle.dropping.specs.declared.Dropped.TheVariants.{Left}
@@ -13,4 +14,12 @@ abbrev pub ty : Ty
 ty = Laws.mir
 
 abbrev pub elem : Elem
-elem = record { R = row the_type; one = refl; cp = c_enum the_type Laws.the_laws Laws.the_copy; dv = Left 0; size = 12; places = λ i o. at_mul o 12 i }
+elem = record {
+  R = row the_type;
+  laws = variants_laws the_type (copy_row_lawss the_type.parts Laws.the_copy);
+  one = refl;
+  cp = c_enum the_type Laws.the_laws Laws.the_copy;
+  dv = Left 0;
+  size = 12;
+  places = λ i o. at_mul o 12 i;
+}

@@ -1,11 +1,8 @@
 -- `circuit::backward` meets its contract: the check is the whole table, and what passes it is a sound circuit and one of its levels. Assumes nothing.
-use mathlib.Core.Path.{ap, sym, ◌∙◌}
 use native.Mathlib.Omega.{arith}
-use Rattle.refusals.specs.Checks.{found}
 use Rattle.refusals.proofs.Tables.{refused_all, fine-all}
 use Rattle.circuit.specs.Rules.{run_rows}
 use Rattle.circuit.proofs.RuleLaws.{run_ok}
-use borrow.Author.Rules.{rules}
 use Rattle.circuit.proofs.backward.Goals as goal
 
 pub run_backward-requires : goal.run_backward-requires

@@ -3,7 +3,6 @@ use mathlib.Core.Path.{sym}
 use native.Mathlib.Nat.{min-eq_left, min-eq_right}
 use native.Mathlib.Omega.{arith}
 use Rattle.refusals.specs.Places.{in_word}
-use borrow.Author.Rules.{rules}
 use Rattle.refusals.proofs.in_word.Goals as goal
 
 pub returns-then-number-lt4294967295 : goal.returns-then-number-lt4294967295

@@ -1,10 +1,8 @@
 -- `simulator::catches` meets its contract: the check is the whole table, and what passes it is a fault of a sound circuit. Assumes nothing.
-use mathlib.Core.Path.{ap, sym, ◌∙◌}
-use Rattle.refusals.specs.Checks.{found}
+use mathlib.Core.Path.{◌∙◌}
 use Rattle.refusals.proofs.Tables.{refused_all, fine-all}
 use Rattle.simulator.specs.Rules.{catch_rows}
 use Rattle.simulator.proofs.RuleLaws.{catch_ok}
-use borrow.Author.Rules.{rules}
 use Rattle.simulator.proofs.catches.Goals as goal
 
 pub catches-requires : goal.catches-requires

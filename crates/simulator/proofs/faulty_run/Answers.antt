@@ -1,10 +1,7 @@
 -- `simulator::faulty_run` meets its contract: the check is the whole table, and what passes it is a fault of a sound circuit. Assumes nothing.
-use mathlib.Core.Path.{ap, sym, ◌∙◌}
-use Rattle.refusals.specs.Checks.{found}
 use Rattle.refusals.proofs.Tables.{refused_all, fine-all}
 use Rattle.simulator.specs.Rules.{catch_rows}
 use Rattle.simulator.proofs.RuleLaws.{catch_ok}
-use borrow.Author.Rules.{rules}
 use Rattle.simulator.proofs.faulty_run.Goals as goal
 
 pub faulty_run-requires : goal.faulty_run-requires

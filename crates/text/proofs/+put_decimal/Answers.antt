@@ -1,8 +1,6 @@
 -- `text::put_decimal` meets its contract: a number of one digit is that digit, and any other is the number without its
 -- last digit, and then that digit. The number falls at each call. Assumes nothing.
-use mathlib.Core.Path.{◌∙◌}
 use native.Mathlib.Omega.{arith}
-use lib.ListN.{length-set}
 use Rattle.text.proofs.TextLaws.{put_small, put_last, room_more}
 use Rattle.text.proofs.+put_decimal.Goals as goal
 

@@ -1,6 +1,5 @@
 -- `circuit::checked::is_control` meets its contract: a control is a line that is 1 in the mask. Assumes nothing.
 use Rattle.circuit.specs.Controls.{is_control}
-use borrow.Author.Rules.{rules}
 use Rattle.circuit.proofs.checked.is_control.Goals as goal
 
 pub returns : goal.returns

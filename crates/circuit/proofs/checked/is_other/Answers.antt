@@ -1,7 +1,6 @@
 -- `circuit::checked::is_other` meets its contract: a line that is no control is asked whether it is the target. Assumes nothing.
 use mathlib.Core.Path.{sym, ◌∙◌}
 use Rattle.circuit.specs.Controls.{touches, is_other}
-use borrow.Author.Rules.{rules}
 use Rattle.circuit.proofs.checked.is_other.Goals as goal
 
 pub returns-then-is_control : goal.returns-then-is_control

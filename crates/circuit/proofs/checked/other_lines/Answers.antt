@@ -1,7 +1,6 @@
 -- `circuit::checked::other_lines` meets its contract: the lines that are no controls, less the target. Assumes nothing.
 use mathlib.Core.Path.{◌∙◌}
 use Rattle.circuit.proofs.LineLaws.{others_code}
-use borrow.Author.Rules.{rules}
 use Rattle.circuit.proofs.checked.other_lines.Goals as goal
 
 pub returns : goal.returns

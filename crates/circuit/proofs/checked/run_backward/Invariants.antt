@@ -1,15 +1,10 @@
 -- `circuit::checked::run_backward` meets its contract: each turn undoes the last gate of what is left, so the run back is the same from there.
 -- Assumes nothing.
-use Prim.Native.Nat.{◌+◌, ◌-◌, ◌≤◌}
-use mathlib.Core.Path.{◌≡◌, ap, sym, ◌∙◌}
-use native.Mathlib.Omega.{arith}
+use Prim.Native.Nat.{◌-◌, ◌≤◌}
+use mathlib.Core.Path.{◌≡◌}
 use lib.ListN.{length}
-use borrow.Author.Rules.{rules}
 use Rattle.circuit.specs.Gates.{gates_of}
-use Rattle.circuit.specs.Runs.{backward, step}
-use Rattle.circuit.proofs.GateLaws.{gate_entry}
-use Rattle.circuit.proofs.RuleLaws.{target_fits}
-use Rattle.circuit.proofs.RunLaws.{backward_none, backward_less}
+use Rattle.circuit.specs.Runs.{backward}
 use Rattle.circuit.proofs.checked.run_backward.Given as goal
 
 abbrev pub invariant-loop-taken : goal.invariant-loop-taken

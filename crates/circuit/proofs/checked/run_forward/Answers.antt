@@ -2,7 +2,6 @@
 use mathlib.Core.Path.{◌∙◌}
 use Rattle.circuit.specs.Gates.{gates_of}
 use Rattle.circuit.proofs.RunLaws.{onward-forward}
-use borrow.Author.Rules.{rules}
 use Rattle.circuit.proofs.checked.run_forward.Goals as goal
 
 pub returns : goal.returns

@@ -1,15 +1,10 @@
 -- `circuit::checked::run_onward` meets its contract: each turn takes the state one level up, by the gate that reads the level reached. Assumes
 -- nothing.
 use Prim.Native.Nat.{◌-◌, ◌≤◌}
-use mathlib.Core.Path.{◌≡◌, ap₂, sym, ◌∙◌}
-use native.Mathlib.Omega.{arith}
+use mathlib.Core.Path.{◌≡◌}
 use lib.ListN.{length}
-use borrow.Author.Rules.{rules}
 use Rattle.circuit.specs.Gates.{gates_of}
-use Rattle.circuit.specs.Runs.{onward, step}
-use Rattle.circuit.proofs.GateLaws.{gate_entry}
-use Rattle.circuit.proofs.RuleLaws.{target_fits}
-use Rattle.circuit.proofs.RunLaws.{onward_none, onward-more}
+use Rattle.circuit.specs.Runs.{onward}
 use Rattle.circuit.proofs.checked.run_onward.Given as goal
 
 abbrev pub invariant-loop-i : goal.invariant-loop-i

@@ -1,6 +1,5 @@
 -- `circuit::checked::stopping_controls` meets its contract: the one control that is 0, where all the others are 1. Assumes nothing.
 use mathlib.Core.Path.{◌∙◌}
-use borrow.Author.Rules.{rules}
 use Rattle.circuit.proofs.StopLaws.{stopping_code}
 use Rattle.circuit.proofs.checked.stopping_controls.Goals as goal
 

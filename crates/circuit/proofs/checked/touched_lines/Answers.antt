@@ -1,7 +1,6 @@
 -- `circuit::checked::touched_lines` meets its contract: the target, which is no control, is added to the controls. Assumes nothing.
 use mathlib.Core.Path.{◌∙◌}
 use Rattle.circuit.proofs.LineLaws.{touched_word}
-use borrow.Author.Rules.{rules}
 use Rattle.circuit.proofs.checked.touched_lines.Goals as goal
 
 pub returns : goal.returns

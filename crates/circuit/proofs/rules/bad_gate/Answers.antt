@@ -1,8 +1,7 @@
 -- `circuit::rules::bad_gate` meets its contract: each test is one of the four ways in which a gate is bad. Assumes nothing.
 use mathlib.Core.Path.{sym, ◌∙◌}
-use borrow.Author.Tests.{ltb-true, ltb-false, not-true, not-false}
+use borrow.Author.Tests.{ltb-true, ltb-false}
 use Rattle.circuit.proofs.RuleLaws.{bad_controls, bad_spare, bad_target, bad_last}
-use borrow.Author.Rules.{rules}
 use Rattle.circuit.proofs.rules.bad_gate.Goals as goal
 
 pub returns-then-not-below : goal.returns-then-not-below

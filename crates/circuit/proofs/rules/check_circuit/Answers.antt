@@ -1,6 +1,5 @@
 -- `circuit::rules::check_circuit` meets its contract: a circuit that is asked alone has no set. Assumes nothing.
 use Rattle.circuit.specs.Rules.{circuit_rows}
-use borrow.Author.Rules.{rules}
 use Rattle.circuit.proofs.rules.check_circuit.Goals as goal
 
 pub returns : goal.returns

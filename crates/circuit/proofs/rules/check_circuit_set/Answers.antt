@@ -1,7 +1,6 @@
 -- `circuit::rules::check_circuit_set` meets its contract: its tests are the rows of the table, in their order. Assumes nothing.
 use mathlib.Core.Path.{sym, ◌∙◌}
 use native.Mathlib.Omega.{arith}
-use borrow.Author.Rules.{rules}
 use Rattle.circuit.proofs.RuleLaws.{lines_right, counts_right, first_bad-le, set_lines, set_counts, set-gate, set-fine}
 use Rattle.circuit.proofs.rules.check_circuit_set.Goals as goal
 

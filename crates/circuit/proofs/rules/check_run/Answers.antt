@@ -1,15 +1,14 @@
 -- `circuit::rules::check_run` meets its contract: the rules of the circuit and the state come first, then rule 12. Assumes nothing.
-use mathlib.Core.Path.{ap, sym, ◌∙◌}
+use mathlib.Core.Path.{sym, ◌∙◌}
 use mathlib.Core.List.{◌++◌}
 use native.Mathlib.Omega.{arith}
 use lib.ListN.{length}
 use borrow.Author.Tests.{le-ltb, lt-ltb}
-use Rattle.refusals.specs.Checks.{fine, found}
+use Rattle.refusals.specs.Checks.{fine}
 use Rattle.refusals.proofs.Tables.{refused_on, fine_on}
 use Rattle.circuit.specs.Gates.{gates_of}
 use Rattle.circuit.specs.Rules.{circuit_rows, vector_rows, level_rows, run_rows}
 use Rattle.circuit.proofs.GateLaws.{gates_count}
-use borrow.Author.Rules.{rules}
 use Rattle.circuit.proofs.rules.check_run.Goals as goal
 
 pub returns-in-Wrong : goal.returns-in-Wrong

@@ -1,13 +1,12 @@
 -- `circuit::rules::check_set` meets its contract: the rules of the circuit and the number of vectors come first, then rule 8. Assumes nothing.
-use mathlib.Core.Path.{ap, sym, ◌∙◌}
+use mathlib.Core.Path.{sym, ◌∙◌}
 use native.Mathlib.Omega.{arith}
 use lib.ListN.{length}
 use borrow.Author.Tests.{eq-eqb, ne_eqb}
-use Rattle.refusals.specs.Checks.{fine, found}
+use Rattle.refusals.specs.Checks.{fine}
 use Rattle.refusals.proofs.Tables.{refused_on, fine_on}
 use Rattle.circuit.specs.Rules.{circuit_set_rows, set_rows}
 use Rattle.circuit.proofs.RuleLaws.{circuit_set_ok, first_vector_le}
-use borrow.Author.Rules.{rules}
 use Rattle.circuit.proofs.rules.check_set.Goals as goal
 
 pub returns-in-Wrong : goal.returns-in-Wrong

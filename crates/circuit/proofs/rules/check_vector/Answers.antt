@@ -1,13 +1,12 @@
 -- `circuit::rules::check_vector` meets its contract: the rules of the circuit come first, then rule 8. Assumes nothing.
 use Prim.Native.Nat.{◌^◌}
-use mathlib.Core.Path.{ap, sym, ◌∙◌}
+use mathlib.Core.Path.{sym, ◌∙◌}
 use native.Mathlib.Omega.{arith}
 use borrow.Author.Tests.{ltb-true, ltb-false, le-leb, lt-leb}
-use Rattle.refusals.specs.Checks.{fine, found}
+use Rattle.refusals.specs.Checks.{fine}
 use Rattle.refusals.proofs.Tables.{refused_on, fine_on}
 use Rattle.circuit.specs.Rules.{circuit_rows, vector_rows}
 use Rattle.circuit.proofs.RuleLaws.{sound}
-use borrow.Author.Rules.{rules}
 use Rattle.circuit.proofs.rules.check_vector.Goals as goal
 
 pub returns-in-Wrong : goal.returns-in-Wrong

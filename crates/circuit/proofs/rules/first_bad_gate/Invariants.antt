@@ -1,18 +1,13 @@
 -- `circuit::rules::first_bad_gate` meets its contract: each turn passes a good gate, so that the first bad one of what is left is that of the whole.
 -- Assumes nothing.
-use Prim.Native.Nat.{◌/◌, ◌+◌, ◌-◌, ◌%◌, ◌≤◌}
-use borrow.Author.Tests.{eq-eqb, ne_eqb}
-use mathlib.Core.Path.{◌≡◌, refl, ap, sym, ◌∙◌}
+use Prim.Native.Nat.{◌+◌, ◌-◌, ◌%◌, ◌≤◌}
+use mathlib.Core.Path.{◌≡◌}
 use mathlib.Core.Bool.{not}
-use native.Mathlib.Omega.{arith}
 use lib.Dec.{eqb}
 use lib.ListN.{length, drop}
-use borrow.Author.Rules.{rules}
 use Rattle.refusals.specs.Places.{first_bad_from}
-use Rattle.refusals.proofs.Places.{bad-found, bad_passed, bad_end}
-use Rattle.circuit.specs.Gates.{gates_of, no_gate}
+use Rattle.circuit.specs.Gates.{gates_of}
 use Rattle.circuit.specs.Rules.{bad_gate, first_bad_gate}
-use Rattle.circuit.proofs.GateLaws.{gates_count, gate_entry}
 use Rattle.circuit.proofs.rules.first_bad_gate.Given as goal
 
 abbrev pub invariant-loop-i : goal.invariant-loop-i

@@ -1,14 +1,10 @@
 -- `circuit::rules::first_bad_vector` meets its contract: each turn passes a vector that fits. Assumes nothing.
 use Prim.Native.Nat.{◌+◌, ◌-◌, ◌^◌}
-use mathlib.Core.Path.{◌≡◌, refl, sym, ◌∙◌}
+use mathlib.Core.Path.{◌≡◌}
 use mathlib.Core.Bool.{false}
-use native.Mathlib.Omega.{arith}
 use lib.Dec.{leb}
-use lib.ListN.{length, get_or, drop}
-use borrow.Author.Rules.{rules}
-use borrow.Author.Tests.{ltb-true, ltb-false, le-leb, lt-leb, not-true, not-false}
+use lib.ListN.{length, drop}
 use Rattle.refusals.specs.Places.{first_bad_from}
-use Rattle.refusals.proofs.Places.{bad-found, bad_passed, bad_end}
 use Rattle.circuit.specs.Rules.{first_bad_vector}
 use Rattle.circuit.proofs.rules.first_bad_vector.Given as goal
 

@@ -1,9 +1,8 @@
 -- `faults::rules::check_fault` meets its contract: each class has its own test, and a number that is no class has none. Assumes nothing.
-use mathlib.Core.Path.{◌≡◌, sym, ◌∙◌}
+use mathlib.Core.Path.{sym, ◌∙◌}
 use native.Mathlib.Omega.{arith}
 use Rattle.circuit.specs.Gates.{gates_of}
 use Rattle.faults.proofs.RuleLaws.{class_one, class_two, class_three, class_four, class_none, nine, nine_none}
-use borrow.Author.Rules.{rules}
 use Rattle.faults.proofs.rules.check_fault.Goals as goal
 
 pub returns-in-1 : goal.returns-in-1

@@ -2,7 +2,6 @@
 use mathlib.Core.Path.{◌≡◌, sym, ap, ◌∙◌}
 use native.Mathlib.Omega.{arith}
 use borrow.Author.Tests.{lt-ltb, le-ltb, not-true, not-false}
-use borrow.Author.Rules.{rules}
 use Rattle.circuit.specs.Gates.{gates_of, gate_at}
 use Rattle.circuit.specs.Controls.{is_other}
 use Rattle.circuit.proofs.GateLaws.{gates_count}

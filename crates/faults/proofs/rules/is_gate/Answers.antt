@@ -1,7 +1,6 @@
 -- `faults::rules::is_gate` meets its contract: gates are numbered from 1 to the last. Assumes nothing.
 use native.Mathlib.Omega.{arith}
 use borrow.Author.Tests.{le-leb, lt-leb}
-use borrow.Author.Rules.{rules}
 use Rattle.circuit.proofs.GateLaws.{gates_count}
 use Rattle.faults.specs.Rules.{is_gate}
 use Rattle.faults.proofs.rules.is_gate.Goals as goal

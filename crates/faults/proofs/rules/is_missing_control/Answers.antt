@@ -2,7 +2,6 @@
 use mathlib.Core.Path.{◌≡◌, sym, ap, ◌∙◌}
 use native.Mathlib.Omega.{arith}
 use borrow.Author.Tests.{not-true, not-false}
-use borrow.Author.Rules.{rules}
 use Rattle.circuit.specs.Gates.{gates_of, gate_at}
 use Rattle.circuit.specs.Controls.{is_control}
 use Rattle.circuit.proofs.ControlLaws.{control_above}

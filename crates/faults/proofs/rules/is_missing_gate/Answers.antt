@@ -1,7 +1,6 @@
 -- `faults::rules::is_missing_gate` meets its contract: each test is one of the fields of a missing gate. Assumes nothing.
 use mathlib.Core.Path.{◌≡◌, sym, ap, ◌∙◌}
 use borrow.Author.Tests.{eq-eqb, ne_eqb, not-true, not-false}
-use borrow.Author.Rules.{rules}
 use Rattle.circuit.specs.Gates.{gates_of}
 use Rattle.faults.specs.Rules.{is_gate, is_missing_gate}
 use Rattle.faults.proofs.rules.is_missing_gate.Goals as goal

@@ -8,7 +8,6 @@ use borrow.Author.Tests.{le-leb, lt-leb, eq-eqb, ne_eqb}
 use Rattle.faults.specs.Sites.{sites}
 use Rattle.faults.specs.Rules.{is_stuck_at}
 use Rattle.faults.proofs.SiteLaws.{site_above}
-use borrow.Author.Rules.{rules}
 use Rattle.faults.proofs.rules.is_stuck_at.Goals as goal
 
 pub returns-then-gates-gates_before : goal.returns-then-gates-gates_before

@@ -1,15 +1,11 @@
 -- `faults::sites::site_count` meets its contract: each turn adds the sites of one level. Assumes nothing.
 use Prim.Native.Nat.{◌+◌, ◌-◌, ◌*◌, ◌≤◌}
-use mathlib.Core.Path.{◌≡◌, ap, ◌∙◌}
-use native.Mathlib.Omega.{arith}
-use borrow.Author.Rules.{rules}
+use mathlib.Core.Path.{◌≡◌}
 use lib.ListN.{length}
 use Rattle.circuit.specs.Limits.{most_lines}
 use Rattle.circuit.specs.Gates.{gates_of}
-use Rattle.circuit.proofs.GateLaws.{gates_count}
-use Rattle.words.proofs.AndLaws.{length_lines_le}
-use Rattle.faults.specs.Sites.{sites, site_count}
-use Rattle.faults.proofs.SiteCount.{sites_from, sites-all, sites-more, sites_none}
+use Rattle.faults.specs.Sites.{site_count}
+use Rattle.faults.proofs.SiteCount.{sites_from}
 use Rattle.faults.proofs.sites.site_count.Given as goal
 
 abbrev pub invariant-loop-i : goal.invariant-loop-i

@@ -2,7 +2,6 @@
 -- nothing.
 use mathlib.Core.Path.{◌≡◌, sym, ap, ◌∙◌}
 use native.Mathlib.Omega.{arith}
-use borrow.Author.Rules.{rules}
 use Rattle.words.specs.WordOf.{word_of}
 use Rattle.circuit.specs.Gates.{gates_of, gate_at}
 use Rattle.circuit.specs.Controls.{touches}

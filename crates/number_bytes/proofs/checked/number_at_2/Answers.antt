@@ -2,7 +2,6 @@
 use Prim.Native.Nat.{◌+◌}
 use native.Mathlib.Omega.{arith}
 use Rattle.number_bytes.proofs.ByteLaws.{number_two}
-use borrow.Author.Rules.{rules}
 use Rattle.number_bytes.proofs.checked.number_at_2.Goals as goal
 
 pub overflow_cast-low : goal.overflow_cast-low

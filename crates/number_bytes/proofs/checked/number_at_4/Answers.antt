@@ -3,7 +3,6 @@ use Prim.Native.Nat.{ℕ, ◌+◌, ◌<◌}
 use native.Mathlib.Omega.{arith}
 use lib.ListN.{get_or}
 use Rattle.number_bytes.proofs.ByteLaws.{number_fits, number_four}
-use borrow.Author.Rules.{rules}
 use Rattle.number_bytes.proofs.checked.number_at_4.Goals as goal
 
 pub overflow_mul-result : goal.overflow_mul-result

@@ -2,7 +2,6 @@
 use native.Mathlib.Omega.{arith}
 use lib.ListN.{length-set}
 use Rattle.number_bytes.proofs.ByteLaws.{put_two}
-use borrow.Author.Rules.{rules}
 use Rattle.number_bytes.proofs.checked.put_2.Goals as goal
 
 pub bounds-out-at-2 : goal.bounds-out-at-2

@@ -1,6 +1,5 @@
 -- `bytes::checked::put_4` meets its contract: two numbers of two bytes are stored side by side. Assumes nothing.
 use Rattle.number_bytes.proofs.ByteLaws.{put_four}
-use borrow.Author.Rules.{rules}
 use Rattle.number_bytes.proofs.checked.put_4.Goals as goal
 
 pub returns : goal.returns

@@ -1,12 +1,7 @@
 -- `bytes::checked::put_words` meets its contract: each turn stores one word, and the stores left make the rest of the bytes. Assumes nothing.
 use Rattle.number_bytes.proofs.ByteLaws.{words_put_start, words_put, words_put_end}
-use Prim.Native.Nat.{◌+◌, ◌-◌, ◌*◌, ◌≤◌}
-use mathlib.Core.Path.{◌≡◌, refl, sym, ◌∙◌}
+use mathlib.Core.Path.{refl, sym, ◌∙◌}
 use native.Mathlib.Omega.{arith}
-use lib.ListN.{length, drop}
-use lib.Seq.{sets}
-use Rattle.basics.specs.Lists.{each}
-use Rattle.number_bytes.specs.Bytes.{bytes_of}
 use Rattle.number_bytes.proofs.checked.put_words.Goals as goal
 
 pub loop-i-init : goal.loop-i-init

@@ -1,8 +1,6 @@
 -- `bytes::checked::put_words` meets its contract: each turn stores one word, and the stores left make the rest of the bytes. Assumes nothing.
-use Rattle.number_bytes.proofs.ByteLaws.{words_put_start, words_put, words_put_end}
 use Prim.Native.Nat.{◌+◌, ◌-◌, ◌*◌, ◌≤◌}
-use mathlib.Core.Path.{◌≡◌, refl, sym, ◌∙◌}
-use native.Mathlib.Omega.{arith}
+use mathlib.Core.Path.{◌≡◌}
 use lib.ListN.{length, drop}
 use lib.Seq.{sets}
 use Rattle.basics.specs.Lists.{each}

@@ -1,11 +1,8 @@
 -- `bytes::checked::read_words` meets its contract: each turn stores one word, and the stores left make the rest of the words. Assumes nothing.
 use Rattle.number_bytes.proofs.ByteLaws.{words_read-start, words_read_end, words_read_lem}
-use Prim.Native.Nat.{◌+◌, ◌-◌, ◌*◌, ◌≤◌}
-use mathlib.Core.Path.{◌≡◌, refl, sym, ◌∙◌}
+use mathlib.Core.Path.{refl, sym, ◌∙◌}
 use native.Mathlib.Omega.{arith}
 use lib.ListN.{length, length-set}
-use lib.Seq.{sets}
-use Rattle.number_bytes.specs.Bytes.{words_at}
 use Rattle.number_bytes.proofs.checked.read_words.Goals as goal
 
 pub loop-i-init : goal.loop-i-init

@@ -1,5 +1,5 @@
 -- `simulator::checked::catches` meets its contract: the output differs where the fault leaves another state at one level. Assumes nothing.
-use mathlib.Core.Path.{◌≡◌, sym, ◌∙◌}
+use mathlib.Core.Path.{sym, ◌∙◌}
 use mathlib.Core.Logic.{◌≢◌}
 use native.Mathlib.Omega.{arith}
 use Rattle.circuit.specs.Gates.{gates_of}

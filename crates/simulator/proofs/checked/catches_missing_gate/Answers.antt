@@ -2,7 +2,6 @@
 use Prim.Native.Nat.{◌-◌}
 use mathlib.Core.Path.{◌≡◌}
 use native.Mathlib.Omega.{arith}
-use borrow.Author.Rules.{rules}
 use Rattle.circuit.proofs.RuleLaws.{target_fits}
 use Rattle.simulator.proofs.checked.catches_missing_gate.Goals as goal
 

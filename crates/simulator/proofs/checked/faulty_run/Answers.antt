@@ -1,9 +1,8 @@
 -- `simulator::checked::faulty_run` meets its contract: each class leaves the circuit at one level in another state, and the rest of the
 -- circuit goes on from there. Assumes nothing.
 use mathlib.Core.Path.{◌≡◌, sym, ◌∙◌}
-use mathlib.Core.Logic.{◌≢◌, ⊎_elim}
+use mathlib.Core.Logic.{◌≢◌}
 use native.Mathlib.Omega.{arith}
-use borrow.Author.Rules.{rules}
 use Rattle.circuit.specs.Gates.{gates_of}
 use Rattle.circuit.specs.Runs.{run}
 use Rattle.circuit.specs.Controls.{less_control, more_control}
@@ -94,7 +93,7 @@ returns-in-0 c =
     let a = c.args in
     let gs = gates_of a.gates.now in
     let none : faulty gs a.fault a.vector ≡ run gs a.vector = elim c.in-0-1.branch [
-      in-0-1 w ↦ faulty_none gs a.fault a.vector (λ e. omega arith) (λ e. omega arith) (λ e. omega arith) (λ e. omega arith)
-    | in_default-1 w ↦ faulty_none gs a.fault a.vector (λ e. omega arith) (λ e. omega arith) (λ e. omega arith) (λ e. omega arith)
+      | in-0-1 w ↦ faulty_none gs a.fault a.vector (λ e. omega arith) (λ e. omega arith) (λ e. omega arith) (λ e. omega arith)
+      | in_default-1 w ↦ faulty_none gs a.fault a.vector (λ e. omega arith) (λ e. omega arith) (λ e. omega arith) (λ e. omega arith)
     ] in
     c.run_rest.ensures ∙ rw (c.level.ensures, none)

@@ -1,5 +1,4 @@
 -- `simulator::checked::gate_less` meets its contract: the gate that the fault names is changed in the line that it names. Assumes nothing.
-use borrow.Author.Rules.{rules}
 use Rattle.simulator.proofs.checked.gate_less.Goals as goal
 
 pub returns : goal.returns

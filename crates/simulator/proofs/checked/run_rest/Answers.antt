@@ -4,7 +4,6 @@ use lib.ListN.{length}
 use Rattle.circuit.specs.Gates.{gates_of}
 use Rattle.circuit.proofs.GateLaws.{gates_count}
 use Rattle.circuit.proofs.RunLaws.{onward_rest}
-use borrow.Author.Rules.{rules}
 use Rattle.simulator.proofs.checked.run_rest.Goals as goal
 
 pub returns : goal.returns

@@ -1,13 +1,12 @@
 -- `simulator::rules::check_catch` meets its contract: the rules of the circuit and the vector come first, then rule 9. Assumes nothing.
-use mathlib.Core.Path.{ap, sym, ◌∙◌}
-use Rattle.refusals.specs.Checks.{fine, found}
+use mathlib.Core.Path.{sym, ◌∙◌}
+use Rattle.refusals.specs.Checks.{fine}
 use Rattle.refusals.proofs.Tables.{refused_on, fine_on}
 use mathlib.Core.List.{◌++◌}
 use Rattle.circuit.specs.Rules.{circuit_rows, vector_rows}
 use Rattle.circuit.proofs.RuleLaws.{vector_ok}
 use Rattle.faults.specs.Rules.{fault_rows}
 use Rattle.simulator.specs.Rules.{catch_rows}
-use borrow.Author.Rules.{rules}
 use Rattle.simulator.proofs.rules.check_catch.Goals as goal
 
 pub check_fault-requires : goal.check_fault-requires

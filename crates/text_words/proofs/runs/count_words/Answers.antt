@@ -1,10 +1,7 @@
 -- `text_words::runs::count_words` meets its contract: each turn passes one word. Assumes nothing.
-use Prim.Native.Nat.{◌+◌, ◌-◌, ◌≤◌}
 use native.Mathlib.Omega.{arith}
-use mathlib.Core.Path.{◌≡◌, ap}
-use borrow.Author.Rules.{rules}
-use lib.ListN.{length, drop}
-use Rattle.text_words.specs.Words.{words_of}
+use mathlib.Core.Path.{ap}
+use lib.ListN.{length}
 use Rattle.text_words.proofs.RunLaws.{words_none, words-some}
 use Rattle.text_words.proofs.runs.count_words.Goals as goal
 

@@ -1,11 +1,8 @@
 -- `text_words::runs::count_words` meets its contract: each turn passes one word. Assumes nothing.
 use Prim.Native.Nat.{◌+◌, ◌-◌, ◌≤◌}
-use native.Mathlib.Omega.{arith}
-use mathlib.Core.Path.{◌≡◌, ap}
-use borrow.Author.Rules.{rules}
+use mathlib.Core.Path.{◌≡◌}
 use lib.ListN.{length, drop}
 use Rattle.text_words.specs.Words.{words_of}
-use Rattle.text_words.proofs.RunLaws.{words_none, words-some}
 use Rattle.text_words.proofs.runs.count_words.Given as goal
 
 abbrev pub invariant-loop-at : goal.invariant-loop-at

@@ -1,12 +1,8 @@
 -- `text_words::runs::line_feed` meets its contract: each turn passes one byte of the run. Assumes nothing.
 use Prim.Native.Nat.{◌-◌}
-use native.Mathlib.Omega.{arith}
-use lib.ListN.{length, get_or}
-use mathlib.Core.Path.{ap}
-use mathlib.Core.Bool.{not}
-use borrow.Author.Tests.{eq-eqb, ne_eqb}
+use lib.ListN.{length}
 use Rattle.text_words.specs.Runs.{in_line}
-use Rattle.text_words.proofs.RunLaws.{Running, run-start, run_more, run-stops, run_ends}
+use Rattle.text_words.proofs.RunLaws.{Running}
 use Rattle.text_words.proofs.runs.line_feed.Given as goal
 
 abbrev pub invariant-loop-i : goal.invariant-loop-i

@@ -2,7 +2,6 @@
 use native.Mathlib.Omega.{arith}
 use mathlib.Core.Path.{sym}
 use Rattle.text_words.proofs.RunLaws.{line_at_last, line_at_lf, line_at_cr, line_bare, line_plain}
-use borrow.Author.Rules.{rules}
 use Rattle.text_words.proofs.runs.next_line.Goals as goal
 
 pub returns-then-end-text : goal.returns-then-end-text

@@ -1,6 +1,5 @@
 -- `text_words::runs::next_word` meets its contract: blanks, and then the word. Assumes nothing.
 use Rattle.text_words.proofs.RunLaws.{word_at}
-use borrow.Author.Rules.{rules}
 use Rattle.text_words.proofs.runs.next_word.Goals as goal
 
 pub returns : goal.returns

@@ -1,12 +1,8 @@
 -- `text_words::runs::past_blanks` meets its contract: each turn passes one byte of the run. Assumes nothing.
-use Prim.Native.Nat.{◌-◌}
 use native.Mathlib.Omega.{arith}
-use lib.ListN.{length}
 use mathlib.Core.Path.{sym, ◌∙◌}
-use borrow.Author.Rules.{rules}
-use borrow.Author.Tests.{not-true, not-false}
 use Rattle.text_words.specs.Words.{is_blank}
-use Rattle.text_words.proofs.RunLaws.{Running, run-start, run_more, run-stops, run_ends}
+use Rattle.text_words.proofs.RunLaws.{run-start, run_more, run-stops, run_ends}
 use Rattle.text_words.proofs.runs.past_blanks.Goals as goal
 
 pub loop-i-init : goal.loop-i-init

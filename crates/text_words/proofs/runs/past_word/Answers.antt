@@ -1,12 +1,9 @@
 -- `text_words::runs::past_word` meets its contract: each turn passes one byte of the run. Assumes nothing.
-use Prim.Native.Nat.{◌-◌}
 use native.Mathlib.Omega.{arith}
-use lib.ListN.{length}
 use mathlib.Core.Path.{sym, ap, ◌∙◌}
 use mathlib.Core.Bool.{not}
-use borrow.Author.Rules.{rules}
 use Rattle.text_words.specs.Runs.{is_ink}
-use Rattle.text_words.proofs.RunLaws.{Running, run-start, run_more, run-stops, run_ends}
+use Rattle.text_words.proofs.RunLaws.{run-start, run_more, run-stops, run_ends}
 use Rattle.text_words.proofs.runs.past_word.Goals as goal
 
 pub loop-i-init : goal.loop-i-init

@@ -1,10 +1,6 @@
 -- `text_words::same::distinct` meets its contract: each turn finds one word at its own place. Assumes nothing.
-use Prim.Native.Nat.{ℕ, ◌-◌, ◌<◌, ◌≤◌}
 use native.Mathlib.Omega.{arith}
 use mathlib.Core.Path.{◌≡◌, refl, sym, ap, ◌∙◌}
-use borrow.Author.Rules.{rules}
-use lib.ListN.{length, drop, get_or}
-use mathlib.Core.List.{[]}
 use borrow.Author.Count.{below_more}
 use Rattle.text.specs.Texts.{place}
 use Rattle.text_words.specs.Words.{words_of}

@@ -1,14 +1,10 @@
 -- `text_words::same::distinct` meets its contract: each turn finds one word at its own place. Assumes nothing.
 use Prim.Native.Nat.{ℕ, ◌-◌, ◌<◌, ◌≤◌}
-use native.Mathlib.Omega.{arith}
-use mathlib.Core.Path.{◌≡◌, refl, sym, ap, ◌∙◌}
-use borrow.Author.Rules.{rules}
+use mathlib.Core.Path.{◌≡◌}
 use lib.ListN.{length, drop, get_or}
 use mathlib.Core.List.{[]}
-use borrow.Author.Count.{below_more}
 use Rattle.text.specs.Texts.{place}
 use Rattle.text_words.specs.Words.{words_of}
-use Rattle.text_words.proofs.PlaceLaws.{listed, firsts_distinct, firsts_twice}
 use Rattle.text_words.proofs.same.distinct.Given as goal
 
 abbrev pub invariant-loop-count : goal.invariant-loop-count

@@ -1,8 +1,6 @@
 -- `text_words::same::is_decimal` meets its contract: each turn passes the last digit of what is left. Assumes nothing.
-use Prim.Native.Nat.{◌≤◌}
 use native.Mathlib.Omega.{arith}
-use mathlib.Core.Path.{◌≡◌, sym, ap, ◌∙◌}
-use lib.ListN.{length, take}
+use mathlib.Core.Path.{sym, ap, ◌∙◌}
 use lib.Seq.{take-length}
 use Rattle.text.specs.Texts.{same}
 use Rattle.text.specs.Decimal.{decimal}

@@ -1,12 +1,9 @@
 -- `text_words::same::is_decimal` meets its contract: each turn passes the last digit of what is left. Assumes nothing.
 use Prim.Native.Nat.{◌≤◌}
-use native.Mathlib.Omega.{arith}
-use mathlib.Core.Path.{◌≡◌, sym, ap, ◌∙◌}
+use mathlib.Core.Path.{◌≡◌}
 use lib.ListN.{length, take}
-use lib.Seq.{take-length}
 use Rattle.text.specs.Texts.{same}
 use Rattle.text.specs.Decimal.{decimal}
-use Rattle.text_words.proofs.DigitLaws.{digits_short, digits_more, digits_other, digits_left, digits_last}
 use Rattle.text_words.proofs.same.is_decimal.Given as goal
 
 abbrev pub invariant-loop-x : goal.invariant-loop-x

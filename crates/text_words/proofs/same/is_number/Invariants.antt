@@ -1,14 +1,9 @@
 -- `text_words::same::is_number` meets its contract: each turn passes one digit. Assumes nothing.
 use Prim.Native.Nat.{◌-◌, ◌≤◌}
-use native.Mathlib.Omega.{arith}
-use mathlib.Core.Path.{◌≡◌, refl, sym, ◌∙◌}
-use borrow.Author.Rules.{rules}
-use borrow.Author.Tests.{ne_eqb, eq-eqb, not-true, not-false}
-use lib.ListN.{length, drop, get_or}
-use lib.Dec.{eqb}
+use mathlib.Core.Path.{◌≡◌}
+use lib.ListN.{length, drop}
 use Rattle.text.specs.Texts.{every}
-use Rattle.text.specs.Decimal.{is_digit, is_number}
-use Rattle.text.proofs.EveryLaws.{all_passed, all_failed, all_ended, begins-first}
+use Rattle.text.specs.Decimal.{is_digit}
 use Rattle.text_words.proofs.same.is_number.Given as goal
 
 abbrev pub invariant-loop-i : goal.invariant-loop-i

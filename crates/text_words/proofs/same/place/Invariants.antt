@@ -1,13 +1,9 @@
 -- `text_words::same::place` meets its contract: each turn passes one word that is another. Assumes nothing.
 use Prim.Native.Nat.{◌+◌, ◌-◌, ◌≤◌}
-use native.Mathlib.Omega.{arith}
-use mathlib.Core.Path.{◌≡◌, sym, ap, ◌∙◌}
-use borrow.Author.Rules.{rules}
+use mathlib.Core.Path.{◌≡◌}
 use lib.ListN.{length, drop}
 use Rattle.text_words.specs.Words.{words_of}
-use Rattle.text_words.proofs.RunLaws.{words_none, words-some}
 use Rattle.text.specs.Texts.{place}
-use Rattle.text.proofs.SameLaws.{place_found, place_passed, place_none}
 use Rattle.text_words.proofs.same.place.Given as goal
 
 abbrev pub invariant-loop-at : goal.invariant-loop-at

@@ -1,9 +1,6 @@
 -- `text_words::same::same` meets its contract: each turn passes one byte that is the same. Assumes nothing.
-use Prim.Native.Nat.{◌-◌, ◌≤◌}
 use native.Mathlib.Omega.{arith}
-use mathlib.Core.Path.{◌≡◌, refl, sym, ◌∙◌}
-use lib.ListN.{length, drop}
-use Rattle.text.specs.Texts.{same}
+use mathlib.Core.Path.{refl, sym, ◌∙◌}
 use Rattle.text.proofs.SameLaws.{same_lengths, same_more, same_other, same_end}
 use Rattle.text_words.proofs.same.same.Goals as goal
 
