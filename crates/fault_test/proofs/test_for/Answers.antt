@@ -1,10 +1,7 @@
 -- `fault_test::test_for` meets its contract: the check is the whole table, and what passes it is a fault of a sound circuit. Assumes nothing.
-use mathlib.Core.Path.{ap, sym, ◌∙◌}
-use Rattle.refusals.specs.Checks.{found}
 use Rattle.refusals.proofs.Tables.{refused_all, fine-all}
 use Rattle.fault_test.specs.Rules.{test_rows}
 use Rattle.fault_test.proofs.RuleLaws.{test_ok}
-use borrow.Author.Rules.{rules}
 use Rattle.fault_test.proofs.test_for.Goals as goal
 
 pub test_for-requires : goal.test_for-requires

@@ -1,10 +1,8 @@
 -- `judge::judge` meets its contract: the check is the whole table, and what passes it is a set on a sound circuit. Assumes nothing.
-use mathlib.Core.Path.{ap, sym, ◌∙◌}
-use Rattle.refusals.specs.Checks.{found}
+use mathlib.Core.Path.{◌∙◌}
 use Rattle.refusals.proofs.Tables.{refused_all, fine-all}
 use Rattle.judge.specs.Rules.{judge_rows}
 use Rattle.judge.proofs.RuleLaws.{judge_ok}
-use borrow.Author.Rules.{rules}
 use Rattle.judge.proofs.judge.Goals as goal
 
 pub judge_class-requires : goal.judge_class-requires

@@ -1,11 +1,9 @@
 -- `multiple_faults::catches_multiple` meets its contract: the check is the whole table, and what passes it are entries of a sound circuit.
 -- Assumes nothing.
-use mathlib.Core.Path.{ap, sym, ◌∙◌}
-use Rattle.refusals.specs.Checks.{found}
+use mathlib.Core.Path.{◌∙◌}
 use Rattle.refusals.proofs.Tables.{refused_all, fine-all}
 use Rattle.multiple_faults.specs.Rules.{multiple_rows}
 use Rattle.multiple_faults.proofs.RuleLaws.{multiple_ok}
-use borrow.Author.Rules.{rules}
 use Rattle.multiple_faults.proofs.catches_multiple.Goals as goal
 
 pub catches_multiple-requires : goal.catches_multiple-requires

@@ -1,12 +1,10 @@
 -- `testsets::backward_set` meets its contract: the check is the whole table, and what passes it is a sound circuit and a room that suffices.
 -- Assumes nothing.
-use mathlib.Core.Path.{ap, sym, ◌∙◌}
+use mathlib.Core.Path.{◌∙◌}
 use lib.ListN.{length}
-use Rattle.refusals.specs.Checks.{found}
 use Rattle.refusals.proofs.Tables.{refused_all, fine-all, after-refused, after-fine}
 use Rattle.testsets.specs.Rules.{backward_rows}
 use Rattle.testsets.proofs.RuleLaws.{backward_ok}
-use borrow.Author.Rules.{rules}
 use Rattle.testsets.proofs.backward_set.Goals as goal
 
 pub make-requires : goal.make-requires

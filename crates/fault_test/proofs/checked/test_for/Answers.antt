@@ -3,7 +3,6 @@
 use Prim.Native.Nat.{◌-◌}
 use mathlib.Core.Path.{◌≡◌, ap₂, sym, ◌∙◌}
 use native.Mathlib.Omega.{arith}
-use borrow.Author.Rules.{rules}
 use Rattle.circuit.specs.Gates.{gates_of}
 use Rattle.circuit.specs.Runs.{backward}
 use Rattle.faults.proofs.ClassLaws.{stuck_fault, names-gate, names-line}

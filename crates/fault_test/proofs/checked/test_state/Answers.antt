@@ -1,7 +1,6 @@
 -- `fault_test::checked::test_state` meets its contract: the line is forced to 0 where one is to be 0. Assumes nothing.
 use mathlib.Core.Path.{sym, ◌∙◌}
 use Rattle.fault_test.specs.Tests.{test_state}
-use borrow.Author.Rules.{rules}
 use Rattle.fault_test.proofs.checked.test_state.Goals as goal
 
 pub returns-then-line_at_zero : goal.returns-then-line_at_zero

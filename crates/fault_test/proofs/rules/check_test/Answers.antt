@@ -1,12 +1,11 @@
 -- `fault_test::rules::check_test` meets its contract: the rules of the circuit come first, then rule 9. Assumes nothing.
-use mathlib.Core.Path.{ap, sym, ◌∙◌}
-use Rattle.refusals.specs.Checks.{fine, found}
+use mathlib.Core.Path.{sym, ◌∙◌}
+use Rattle.refusals.specs.Checks.{fine}
 use Rattle.refusals.proofs.Tables.{refused_on, fine_on}
 use Rattle.circuit.specs.Rules.{circuit_rows}
 use Rattle.circuit.proofs.RuleLaws.{sound}
 use Rattle.faults.specs.Rules.{fault_rows}
 use Rattle.fault_test.specs.Rules.{test_rows}
-use borrow.Author.Rules.{rules}
 use Rattle.fault_test.proofs.rules.check_test.Goals as goal
 
 pub check_fault-requires : goal.check_fault-requires

@@ -1,5 +1,4 @@
 -- `judge::checked::judge_class` meets its contract: class 1 goes by levels, the others by gates. Assumes nothing.
-use borrow.Author.Rules.{rules}
 use Rattle.judge.proofs.checked.judge_class.Goals as goal
 
 pub returns-then-class-eq1 : goal.returns-then-class-eq1

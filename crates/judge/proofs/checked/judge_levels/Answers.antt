@@ -1,7 +1,6 @@
 -- `judge::checked::judge_levels` meets its contract: the words that its own marks make say what some vector catches. Assumes nothing.
 use mathlib.Core.Path.{◌∙◌}
 use Rattle.judge.proofs.SetLaws.{set-levels}
-use borrow.Author.Rules.{rules}
 use Rattle.judge.proofs.checked.judge_levels.Goals as goal
 
 pub returns : goal.returns

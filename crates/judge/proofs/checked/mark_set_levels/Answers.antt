@@ -1,10 +1,8 @@
 -- `judge::checked::mark_set_levels` meets its contract: each turn adds the marks of one vector, and those that are left add the rest. Assumes
 -- nothing.
-use Prim.Native.Nat.{◌+◌, ◌-◌}
-use mathlib.Core.Path.{◌≡◌, refl, sym, ap, ◌∙◌}
-use native.Mathlib.Omega.{arith}
-use lib.ListN.{length, drop}
-use borrow.Author.Rules.{rules}
+use Prim.Native.Nat.{◌+◌}
+use mathlib.Core.Path.{refl, sym, ap, ◌∙◌}
+use lib.ListN.{drop}
 use Rattle.circuit.specs.Gates.{gates_of}
 use Rattle.marking.specs.Marks.{mark_all, level_marks}
 use Rattle.judge.proofs.SetLaws.{mark_all-more, mark_all_end}

@@ -2,7 +2,6 @@
 use mathlib.Core.Path.{sym, ◌∙◌}
 use Rattle.refusals.proofs.Tables.{after-fine}
 use Rattle.judge.specs.Rules.{add_rows}
-use borrow.Author.Rules.{rules}
 use Rattle.judge.proofs.covering.added.Goals as goal
 
 pub returns : goal.returns

@@ -1,12 +1,10 @@
 -- `judge::covering::cover` meets its contract: the check is the whole table, and the coverage of a set gives the judge's verdict. Assumes nothing.
-use mathlib.Core.Path.{ap, sym, ◌∙◌}
-use Rattle.refusals.specs.Checks.{found}
+use mathlib.Core.Path.{ap, ◌∙◌}
 use Rattle.refusals.proofs.Tables.{refused_all}
 use Rattle.judge.specs.Promises.{count_tells}
 use Rattle.judge.specs.Rules.{judge_rows}
 use Rattle.judge.proofs.RuleLaws.{judge_ok, set-circuit}
 use Rattle.judge.proofs.CoverageTheorems.{count_is_judge}
-use borrow.Author.Rules.{rules}
 use Rattle.judge.proofs.covering.cover.Goals as goal
 
 pub covered_by-requires : goal.covered_by-requires

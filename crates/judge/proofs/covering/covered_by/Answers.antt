@@ -1,14 +1,12 @@
 -- `judge::covering::covered_by` meets its contract: each turn adds one vector, and those that are left add the rest. Assumes nothing.
-use Prim.Native.Nat.{◌+◌, ◌-◌, ◌^◌, ◌<◌}
-use mathlib.Core.Path.{◌≡◌, sym, ap, ◌∙◌}
-use native.Mathlib.Omega.{arith}
-use lib.ListN.{length, get_or, drop}
+use Prim.Native.Nat.{◌+◌, ◌^◌, ◌<◌}
+use mathlib.Core.Path.{sym, ap, ◌∙◌}
+use lib.ListN.{get_or, drop}
 use Rattle.basics.proofs.All.{all_at}
 use Rattle.circuit.specs.Gates.{gates_of}
-use Rattle.judge.specs.Coverages.{empty_coverage, with_all}
+use Rattle.judge.specs.Coverages.{with_all}
 use Rattle.judge.proofs.RuleLaws.{vector_passes}
 use Rattle.judge.proofs.SetLaws.{with_all-more, with_all_end}
-use borrow.Author.Rules.{rules}
 use Rattle.judge.proofs.covering.covered_by.Goals as goal
 
 pub loop-i-init : goal.loop-i-init

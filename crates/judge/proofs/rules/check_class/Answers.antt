@@ -1,5 +1,4 @@
 -- `judge::rules::check_class` meets its contract: 1 to 4 are the classes, and every other number is none. Assumes nothing.
-use mathlib.Core.Path.{◌≡◌}
 use native.Mathlib.Omega.{arith}
 use borrow.Author.Tests.{le-leb, lt-leb}
 use Rattle.faults.specs.Classes.{is_class}

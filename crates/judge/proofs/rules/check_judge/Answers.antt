@@ -1,10 +1,9 @@
 -- `judge::rules::check_judge` meets its contract: the class comes last. Assumes nothing.
-use mathlib.Core.Path.{ap, sym, ◌∙◌}
-use Rattle.refusals.specs.Checks.{fine, found}
+use mathlib.Core.Path.{sym, ◌∙◌}
+use Rattle.refusals.specs.Checks.{fine}
 use Rattle.refusals.proofs.Tables.{refused_on, fine_on}
 use Rattle.circuit.specs.Rules.{set_rows}
 use Rattle.judge.specs.Rules.{class_rows, judge_rows}
-use borrow.Author.Rules.{rules}
 use Rattle.judge.proofs.rules.check_judge.Goals as goal
 
 pub returns-in-Wrong : goal.returns-in-Wrong

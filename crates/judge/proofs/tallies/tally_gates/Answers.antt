@@ -1,6 +1,5 @@
 -- `judge::tallies::tally_gates` meets its contract: a verdict is the count, the total and the first fault that is left. Assumes nothing.
 use mathlib.Core.Path.{◌∙◌}
-use borrow.Author.Rules.{rules}
 use Rattle.judge.specs.Judging.{verdict}
 use Rattle.judge.proofs.tallies.tally_gates.Goals as goal
 

@@ -1,6 +1,5 @@
 -- `judge::tallies::tally_levels` meets its contract: a verdict is the count, the total and the first fault that is left. Assumes nothing.
 use mathlib.Core.Path.{refl, ◌∙◌}
-use borrow.Author.Rules.{rules}
 use Rattle.circuit.specs.Gates.{gates_of}
 use Rattle.faults.proofs.ClassLists.{list_one}
 use Rattle.judge.specs.Judging.{verdict}

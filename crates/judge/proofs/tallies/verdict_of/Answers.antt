@@ -1,7 +1,6 @@
 -- `judge::tallies::verdict_of` meets its contract: in each case the verdict tells the first fault as it is told alone. Assumes nothing.
 use mathlib.Core.Path.{ap, sym}
 use mathlib.Core.List.{◌∷◌}
-use borrow.Author.Rules.{rules}
 use Rattle.refusals.specs.Tables.Told.{answered}
 use Rattle.marking.specs.Firsts.{told_first}
 use Rattle.judge.proofs.tallies.verdict_of.Goals as goal

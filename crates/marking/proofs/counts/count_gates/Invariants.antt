@@ -1,18 +1,13 @@
 -- `marking::counts::count_gates` meets its contract: each turn adds the ones of the gate's lines that are marked,
 -- which are its marked faults. Assumes nothing.
-use Prim.Native.Nat.{◌+◌, ◌-◌, ◌≤◌}
-use mathlib.Core.Path.{◌≡◌, sym, ap, ◌∙◌}
-use native.Mathlib.Omega.{arith}
+use Prim.Native.Nat.{◌-◌}
+use mathlib.Core.Path.{◌≡◌}
 use lib.ListN.{length}
-use borrow.Author.Rules.{rules}
 use Rattle.basics.specs.Lists.{keep}
 use Rattle.circuit.specs.Gates.{gates_of}
-use Rattle.circuit.specs.Limits.{most_lines}
-use Rattle.circuit.proofs.GateLaws.{gates_count}
 use Rattle.faults.specs.Classes.{class_faults}
 use Rattle.marking.specs.Marks.{gate_marked}
-use Rattle.marking.specs.Tallies.{gate_lines}
-use Rattle.marking.proofs.TallyLaws.{gate_count, ones_le, Adding, adding_start, adding_more, adding_done, count_gates_sum}
+use Rattle.marking.proofs.TallyLaws.{gate_count, Adding}
 use Rattle.marking.proofs.counts.count_gates.Given as goal
 
 abbrev pub invariant-loop-i : goal.invariant-loop-i

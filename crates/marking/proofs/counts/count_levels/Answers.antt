@@ -1,17 +1,13 @@
 -- `marking::counts::count_levels` meets its contract: each turn adds the ones of the sites that are marked, of each value. Assumes nothing.
-use Prim.Native.Nat.{◌+◌, ◌-◌, ◌≤◌}
+use Prim.Native.Nat.{◌+◌, ◌≤◌}
 use mathlib.Core.Path.{ap, ap₂, ◌∙◌}
 use native.Mathlib.Omega.{arith}
 use lib.ListN.{length}
-use borrow.Author.Rules.{rules}
-use Rattle.basics.specs.Lists.{keep}
 use Rattle.circuit.specs.Gates.{gates_of}
 use Rattle.circuit.specs.Limits.{most_lines}
 use Rattle.circuit.proofs.GateLaws.{gates_count}
-use Rattle.faults.specs.Classes.{stuck_faults}
 use Rattle.faults.specs.Sites.{sites}
-use Rattle.marking.specs.Marks.{level_marked}
-use Rattle.marking.proofs.TallyLaws.{level_count, ones_le, Adding, adding_start, adding_more, adding_done, count-levels-sum}
+use Rattle.marking.proofs.TallyLaws.{ones_le, adding_start, adding_more, adding_done, count-levels-sum}
 use Rattle.marking.proofs.counts.count_levels.Goals as goal
 
 pub loop-i-init : goal.loop-i-init

@@ -1,17 +1,13 @@
 -- `marking::counts::first_gates` meets its contract: each turn passes a gate at which no mark is lacking,
 -- and the lowest line that lacks one is the first fault. Assumes nothing.
-use Prim.Native.Nat.{◌+◌, ◌-◌, ◌≤◌}
+use Prim.Native.Nat.{◌+◌}
 use mathlib.Core.Path.{◌≡◌, ap, sym, ◌∙◌}
 use native.Mathlib.Omega.{arith}
-use lib.ListN.{length, get_or}
-use borrow.Author.Rules.{rules}
-use Rattle.basics.specs.Lists.{up_from, keep, each}
+use lib.ListN.{get_or}
 use Rattle.words.specs.Word.{lines_on}
-use Rattle.words.specs.WordOf.{lacking}
 use Rattle.circuit.specs.Gates.{gates_of}
-use Rattle.circuit.specs.Limits.{most_lines, most_gates}
+use Rattle.circuit.specs.Limits.{most_lines}
 use Rattle.circuit.proofs.GateLaws.{gates_count}
-use Rattle.faults.specs.Classes.{class_faults}
 use Rattle.marking.specs.Firsts.{first_told}
 use Rattle.marking.specs.Tallies.{gate_lines}
 use Rattle.marking.proofs.Counting.{passed_all}

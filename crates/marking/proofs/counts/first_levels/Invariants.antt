@@ -1,20 +1,12 @@
 -- `marking::counts::first_levels` meets its contract: each turn passes a level at which no mark is lacking,
 -- and the lowest line that lacks one is the first fault. Assumes nothing.
 use Prim.Native.Nat.{◌-◌, ◌≤◌}
-use mathlib.Core.Path.{◌≡◌, ap, ap₂, sym, ◌∙◌}
-use native.Mathlib.Omega.{arith}
-use lib.Bits.{bit_or}
-use borrow.Author.Rules.{rules}
+use mathlib.Core.Path.{◌≡◌}
 use Rattle.basics.specs.Lists.{up_from, keep, each}
-use Rattle.words.specs.WordOf.{lacking}
 use Rattle.circuit.specs.Gates.{gates_of}
 use Rattle.circuit.specs.Limits.{levels}
-use Rattle.circuit.proofs.GateLaws.{gates_count}
 use Rattle.faults.specs.Classes.{stuck_faults}
-use Rattle.faults.specs.Sites.{sites}
-use Rattle.marking.specs.Firsts.{first_told}
-use Rattle.marking.proofs.Counting.{passed_all}
-use Rattle.marking.proofs.FirstLaws.{level_left, level_place, levels-start, level_passed, level_found}
+use Rattle.marking.proofs.FirstLaws.{level_left, level_place}
 use Rattle.marking.proofs.counts.first_levels.Given as goal
 
 abbrev pub invariant-loop-i : goal.invariant-loop-i

@@ -1,10 +1,7 @@
 -- `marking::counts::gate_lines` meets its contract: a word for each class of gate faults, of a gate that is one of a sound circuit,
 -- and none for any other class. Assumes nothing.
-use Prim.Native.Nat.{◌<◌, ◌≤◌}
 use mathlib.Core.Path.{sym, ◌∙◌}
 use native.Mathlib.Omega.{arith}
-use lib.ListN.{length}
-use borrow.Author.Rules.{rules}
 use Rattle.circuit.specs.Gates.{gates_of}
 use Rattle.circuit.proofs.RuleLaws.{gate_ok}
 use Rattle.marking.proofs.FaultLines.{lines_two, lines_three, lines_four, lines_none}

@@ -1,15 +1,13 @@
 -- `marking::counts::total_gates` meets its contract: each turn adds the ones of the gate's lines, which are its faults. Assumes nothing.
-use Prim.Native.Nat.{◌+◌, ◌-◌, ◌≤◌}
+use Prim.Native.Nat.{◌+◌, ◌≤◌}
 use mathlib.Core.Path.{◌≡◌, sym, ap, ◌∙◌}
 use native.Mathlib.Omega.{arith}
 use lib.ListN.{length}
-use borrow.Author.Rules.{rules}
 use Rattle.circuit.specs.Gates.{gates_of}
 use Rattle.circuit.specs.Limits.{most_lines}
 use Rattle.circuit.proofs.GateLaws.{gates_count}
-use Rattle.faults.specs.Classes.{class_faults}
 use Rattle.marking.specs.Tallies.{gate_lines}
-use Rattle.marking.proofs.TallyLaws.{gate_total, ones_le, Adding, adding_start, adding_more, adding_done, total_gates_sum}
+use Rattle.marking.proofs.TallyLaws.{ones_le, adding_start, adding_more, adding_done, total_gates_sum}
 use Rattle.marking.proofs.counts.total_gates.Goals as goal
 
 pub loop-i-init : goal.loop-i-init

@@ -1,6 +1,5 @@
 -- `marking::marks::caught_at_gate` meets its contract: a word for each class of gate faults, and none for any other class. Assumes nothing.
 use mathlib.Core.Path.{ap, ◌∙◌}
-use borrow.Author.Rules.{rules}
 use Rattle.basics.specs.Choice.{choice}
 use Rattle.words.specs.WordOf.{lacking}
 use Rattle.circuit.specs.Runs.{fires}

@@ -1,13 +1,9 @@
 -- `marking::marks::mark_gates` meets its contract: each turn marks the word of one gate and goes on to the level that the gate makes.
 -- Assumes nothing.
-use Prim.Native.Nat.{◌+◌, ◌-◌}
+use Prim.Native.Nat.{◌+◌}
 use mathlib.Core.Path.{◌≡◌}
 use native.Mathlib.Omega.{arith}
-use lib.ListN.{take}
-use borrow.Author.Rules.{rules}
-use Rattle.circuit.specs.Gates.{gates_of}
-use Rattle.marking.specs.Marks.{marked, gate_marks}
-use Rattle.marking.proofs.Levels.{AtLevel, level_first, level_gate_ok, level_target, level_next}
+use Rattle.marking.proofs.Levels.{level_first, level_gate_ok, level_target, level_next}
 use Rattle.marking.proofs.TurnLaws.{mark_none, gate_turn, gates_done}
 use Rattle.marking.proofs.marks.mark_gates.Goals as goal
 

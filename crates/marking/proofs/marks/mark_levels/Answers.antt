@@ -1,13 +1,8 @@
 -- `marking::marks::mark_levels` meets its contract: each turn marks one level and goes on to the next, and the last level is marked after the loop.
 -- Assumes nothing.
-use Prim.Native.Nat.{◌-◌}
 use mathlib.Core.Path.{◌≡◌}
 use native.Mathlib.Omega.{arith}
-use lib.ListN.{take}
-use borrow.Author.Rules.{rules}
-use Rattle.circuit.specs.Gates.{gates_of}
-use Rattle.marking.specs.Marks.{marked, level_marks}
-use Rattle.marking.proofs.Levels.{AtLevel, level_first, level_target, level_next}
+use Rattle.marking.proofs.Levels.{level_first, level_target, level_next}
 use Rattle.marking.proofs.TurnLaws.{mark_none, level_turn_0, level_turn_1, levels-done}
 use Rattle.marking.proofs.marks.mark_levels.Goals as goal
 

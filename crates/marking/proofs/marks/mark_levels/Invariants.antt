@@ -2,13 +2,10 @@
 -- Assumes nothing.
 use Prim.Native.Nat.{◌-◌}
 use mathlib.Core.Path.{◌≡◌}
-use native.Mathlib.Omega.{arith}
 use lib.ListN.{take}
-use borrow.Author.Rules.{rules}
 use Rattle.circuit.specs.Gates.{gates_of}
 use Rattle.marking.specs.Marks.{marked, level_marks}
-use Rattle.marking.proofs.Levels.{AtLevel, level_first, level_target, level_next}
-use Rattle.marking.proofs.TurnLaws.{mark_none, level_turn_0, level_turn_1, levels-done}
+use Rattle.marking.proofs.Levels.{AtLevel}
 use Rattle.marking.proofs.marks.mark_levels.Given as goal
 
 abbrev pub invariant-loop-i : goal.invariant-loop-i

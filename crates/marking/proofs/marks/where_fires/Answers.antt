@@ -1,6 +1,5 @@
 -- `marking::marks::where_fires` meets its contract: it is the choice itself. Assumes nothing.
 use mathlib.Core.Path.{sym, ◌∙◌}
-use borrow.Author.Rules.{rules}
 use Rattle.marking.proofs.marks.where_fires.Goals as goal
 
 pub returns-then-fires : goal.returns-then-fires

@@ -1,6 +1,5 @@
 -- `multiple_faults::checked::catches_multiple` meets its contract: the output with all lines stuck is compared with the good one. Assumes nothing.
 use Rattle.multiple_faults.specs.Multiple.{caught_together}
-use borrow.Author.Rules.{rules}
 use Rattle.multiple_faults.proofs.checked.catches_multiple.Goals as goal
 
 pub returns : goal.returns

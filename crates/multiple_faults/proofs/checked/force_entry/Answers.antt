@@ -2,7 +2,6 @@
 use mathlib.Core.Path.{◌≡◌}
 use mathlib.Core.Bool.{true, false}
 use lib.Dec.{eqb}
-use borrow.Author.Rules.{rules}
 use Rattle.multiple_faults.proofs.checked.force_entry.Goals as goal
 
 pub returns-then-same_level : goal.returns-then-same_level

@@ -1,8 +1,8 @@
 -- `multiple_faults::checked::force_level` meets its contract: each turn forces what one entry asks, and the entries that are left ask the rest.
 -- Assumes nothing.
 use borrow.Author.Rules.{rules}
-use Prim.Native.Nat.{◌+◌, ◌-◌}
-use mathlib.Core.Path.{◌≡◌, refl, ap, sym, ◌∙◌}
+use Prim.Native.Nat.{◌+◌}
+use mathlib.Core.Path.{ap, sym, ◌∙◌}
 use native.Mathlib.Omega.{arith}
 use lib.ListN.{drop}
 use Rattle.simulator.specs.Faulty.{force_at}

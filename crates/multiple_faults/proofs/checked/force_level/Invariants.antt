@@ -1,14 +1,10 @@
 -- `multiple_faults::checked::force_level` meets its contract: each turn forces what one entry asks, and the entries that are left ask the rest.
 -- Assumes nothing.
-use borrow.Author.Rules.{rules}
-use Prim.Native.Nat.{◌+◌, ◌-◌}
-use mathlib.Core.Path.{◌≡◌, refl, ap, sym, ◌∙◌}
-use native.Mathlib.Omega.{arith}
+use Prim.Native.Nat.{◌-◌}
+use mathlib.Core.Path.{◌≡◌}
 use lib.ListN.{drop}
 use Rattle.simulator.specs.Faulty.{force_at}
 use Rattle.faults.specs.Records.{faults_of}
-use Rattle.faults.proofs.RecordLaws.{records_count}
-use Rattle.multiple_faults.proofs.StuckLaws.{force-more, force_end, entry_line}
 use Rattle.multiple_faults.proofs.checked.force_level.Given as goal
 
 abbrev pub invariant-loop-i : goal.invariant-loop-i

@@ -1,13 +1,13 @@
 -- `multiple_faults::checked::run_stuck` meets its contract: each turn forces the lines of the level reached in the faulty state alone, and
 -- both states take the gate that reads it. Assumes nothing.
-use Prim.Native.Nat.{ℕ, ◌/◌, ◌+◌, ◌-◌, ◌≤◌}
+use Prim.Native.Nat.{ℕ, ◌/◌, ◌+◌}
 use mathlib.Core.Path.{◌≡◌, refl, ap, ap₂, sym, ◌∙◌}
 use mathlib.Core.List.{List}
 use native.Mathlib.Omega.{arith}
 use lib.ListN.{length, drop}
 use borrow.Author.Rules.{rules}
 use Rattle.circuit.specs.Gates.{gates_of}
-use Rattle.circuit.specs.Runs.{step, forward}
+use Rattle.circuit.specs.Runs.{step}
 use Rattle.circuit.proofs.GateLaws.{gates_count, gate_entry}
 use Rattle.circuit.proofs.RuleLaws.{target_fits}
 use Rattle.circuit.proofs.RunLaws.{forward_none, forward-all}

@@ -1,7 +1,6 @@
 -- `multiple_faults::rules::bad_entry` meets its contract: an entry is a fault of class 1. Assumes nothing.
 use borrow.Author.Tests.{eq-eqb, ne_eqb}
 use Rattle.multiple_faults.specs.Multiple.{bad_entry}
-use borrow.Author.Rules.{rules}
 use Rattle.multiple_faults.proofs.rules.bad_entry.Goals as goal
 
 pub returns-then-fault-ne1 : goal.returns-then-fault-ne1

@@ -2,7 +2,6 @@
 -- Assumes nothing.
 use mathlib.Core.Path.{◌∙◌}
 use Rattle.multiple_faults.proofs.RuleLaws.{entries_bad, entries_none, entries_many, entries_twice}
-use borrow.Author.Rules.{rules}
 use Rattle.multiple_faults.proofs.rules.check_entries.Goals as goal
 
 pub returns-then-bad-ne0 : goal.returns-then-bad-ne0

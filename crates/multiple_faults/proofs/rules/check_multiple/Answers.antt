@@ -1,13 +1,12 @@
 -- `multiple_faults::rules::check_multiple` meets its contract: the rules of the circuit and the vector come first, then those of the entries.
 -- Assumes nothing.
-use mathlib.Core.Path.{ap, sym, ◌∙◌}
+use mathlib.Core.Path.{sym, ◌∙◌}
 use mathlib.Core.List.{◌++◌}
-use Rattle.refusals.specs.Checks.{fine, found}
+use Rattle.refusals.specs.Checks.{fine}
 use Rattle.refusals.proofs.Tables.{refused_on, fine_on}
 use Rattle.circuit.specs.Rules.{circuit_rows, vector_rows}
 use Rattle.circuit.proofs.RuleLaws.{vector_ok}
 use Rattle.multiple_faults.specs.Rules.{entries_rows, multiple_rows}
-use borrow.Author.Rules.{rules}
 use Rattle.multiple_faults.proofs.rules.check_multiple.Goals as goal
 
 pub check_entries-requires : goal.check_entries-requires

@@ -1,14 +1,13 @@
 -- `multiple_faults::rules::first_bad_entry` meets its contract: each turn passes an entry, so that the first bad record of what is left is that of
 -- the whole. Assumes nothing.
-use Prim.Native.Nat.{◌≤◌, ◌+◌, ◌-◌, ◌/◌, ◌%◌}
+use Prim.Native.Nat.{◌/◌, ◌%◌}
 use mathlib.Core.Path.{◌≡◌, refl, ap, sym, ◌∙◌}
 use mathlib.Core.Bool.{not}
 use native.Mathlib.Omega.{arith}
 use lib.Dec.{eqb}
-use lib.ListN.{length, drop}
+use lib.ListN.{length}
 use borrow.Author.Rules.{rules}
 use borrow.Author.Tests.{eq-eqb, ne_eqb}
-use Rattle.refusals.specs.Places.{first_bad_from}
 use Rattle.refusals.proofs.Places.{bad-found, bad_passed, bad_end}
 use Rattle.circuit.specs.Gates.{gates_of}
 use Rattle.faults.specs.Records.{no_fault, faults_of, first_bad_record}

@@ -1,9 +1,8 @@
 -- `multiple_faults::rules::named_again` meets its contract: each turn passes a record of another site. Assumes nothing.
-use Prim.Native.Nat.{◌+◌, ◌-◌}
-use mathlib.Core.Path.{◌≡◌, refl, ap, sym, ◌∙◌}
+use Prim.Native.Nat.{◌+◌}
+use mathlib.Core.Path.{refl, ap, sym, ◌∙◌}
 use native.Mathlib.Omega.{arith}
-use lib.ListN.{get_or, drop}
-use borrow.Author.Rules.{rules}
+use lib.ListN.{drop}
 use Rattle.basics.specs.Lists.{some}
 use Rattle.basics.proofs.Lists.{some-found, some_passed, some_end}
 use Rattle.faults.specs.Records.{no_fault, faults_of}

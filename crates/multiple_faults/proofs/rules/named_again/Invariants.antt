@@ -1,14 +1,10 @@
 -- `multiple_faults::rules::named_again` meets its contract: each turn passes a record of another site. Assumes nothing.
-use Prim.Native.Nat.{◌+◌, ◌-◌}
-use mathlib.Core.Path.{◌≡◌, refl, ap, sym, ◌∙◌}
-use native.Mathlib.Omega.{arith}
+use Prim.Native.Nat.{◌-◌}
+use mathlib.Core.Path.{◌≡◌}
 use lib.ListN.{get_or, drop}
-use borrow.Author.Rules.{rules}
 use Rattle.basics.specs.Lists.{some}
-use Rattle.basics.proofs.Lists.{some-found, some_passed, some_end}
 use Rattle.faults.specs.Records.{no_fault, faults_of}
 use Rattle.multiple_faults.specs.Multiple.{same_site}
-use Rattle.faults.proofs.RecordLaws.{records_count}
 use Rattle.multiple_faults.proofs.rules.named_again.Given as goal
 
 abbrev pub invariant-loop-i : goal.invariant-loop-i

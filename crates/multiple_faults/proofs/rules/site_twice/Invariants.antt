@@ -1,12 +1,9 @@
 -- `multiple_faults::rules::site_twice` meets its contract: each turn passes a record whose site no later one names. Assumes nothing.
 use Prim.Native.Nat.{◌-◌}
-use mathlib.Core.Path.{◌≡◌, refl, sym, ◌∙◌}
-use native.Mathlib.Omega.{arith}
+use mathlib.Core.Path.{◌≡◌}
 use lib.ListN.{drop}
 use Rattle.faults.specs.Records.{faults_of}
 use Rattle.multiple_faults.specs.Multiple.{site_twice}
-use Rattle.faults.proofs.RecordLaws.{records_count}
-use Rattle.multiple_faults.proofs.TwiceLaws.{twice_found, twice_passed, twice_end}
 use Rattle.multiple_faults.proofs.rules.site_twice.Given as goal
 
 abbrev pub invariant-loop-i : goal.invariant-loop-i

@@ -1,14 +1,11 @@
 -- `testsets::backward::make` meets its contract: after i turns the room begins with the first i + 2 vectors of the set,
 -- and the state is that of all zeros at level i.
 -- Assumes nothing.
-use Rattle.marking.proofs.Levels.{AtLevel, level_first, level_target, level_next}
-use Rattle.testsets.proofs.BackwardLaws.{backward_begin, backward_turn, backward_end, backward-length, backward_rest}
-use Prim.Native.Nat.{◌+◌, ◌-◌, ◌/◌, ◌≤◌}
-use mathlib.Core.Path.{◌≡◌, refl, ap, ◌∙◌}
+use Rattle.marking.proofs.Levels.{AtLevel}
+use Prim.Native.Nat.{◌+◌, ◌-◌}
+use mathlib.Core.Path.{◌≡◌}
 use mathlib.Core.List.{◌++◌}
-use native.Mathlib.Omega.{arith}
-use lib.ListN.{length, take, drop, set, length-set}
-use borrow.Author.Rules.{rules}
+use lib.ListN.{length, take, drop}
 use Rattle.circuit.specs.Gates.{gates_of}
 use Rattle.testsets.specs.Sets.{backward_set}
 use Rattle.testsets.proofs.backward.make.Given as goal

@@ -1,15 +1,13 @@
 -- `testsets::compact::best` meets its contract: each turn asks one input more, and takes it only where it catches more than the best before.
 -- Assumes nothing.
-use Prim.Native.Nat.{ℕ, ◌+◌, ◌-◌, ◌^◌, ◌≤◌, ◌<◌}
-use mathlib.Core.Path.{◌≡◌, sym, ap, ◌∙◌}
-use mathlib.Core.Logic.{⊎_elim}
+use Prim.Native.Nat.{ℕ, ◌+◌, ◌-◌, ◌^◌, ◌<◌}
+use mathlib.Core.Path.{sym, ap, ◌∙◌}
 use native.Mathlib.Omega.{arith}
-use borrow.Author.Rules.{rules}
 use lib.Pow.{pow_pos}
 use Rattle.basics.specs.Lists.{up_from}
 use Rattle.words.proofs.Coded.{one_shl}
 use Rattle.circuit.specs.Gates.{gates_of}
-use Rattle.testsets.specs.Sets.{score, best_of, best}
+use Rattle.testsets.specs.Sets.{score, best_of}
 use Rattle.testsets.specs.Left.{left_of}
 use Rattle.testsets.proofs.Halving.{best_begin, best_higher, best_kept, best_end}
 use Rattle.testsets.proofs.compact.best.Goals as goal
@@ -39,19 +37,19 @@ loop-next-preserved c =
     let less : next < 2 ^ a.lines = omega arith in
     let from : ℕ → ℕ = λ v. best_of gs fs v (up_from (next + 1) (2 ^ a.lines - (next + 1))) in
     elim c.if-caught-more.branch [
-      then-caught-more w ↦ (
+      | then-caught-more w ↦ (
         c.loop-next.invariant.0,
         omega arith,
         w.caught-is ∙ asked ∙ ap (score gs fs) (sym w.vector-is),
         best-before ∙ best_higher gs fs c.loop-next.vector next (2 ^ a.lines) less (rw (← before, ← asked) w.if-caught-more.true)
-        ∙ ap from (sym w.vector-is),
+            ∙ ap from (sym w.vector-is),
       )
-    | else-caught-more w ↦ (
+      | else-caught-more w ↦ (
         c.loop-next.invariant.0,
         omega arith,
         w.caught-is ∙ before ∙ ap (score gs fs) (sym w.vector-is),
         best-before ∙ best_kept gs fs c.loop-next.vector next (2 ^ a.lines) less (rw (← before, ← asked) w.if-caught-more.false)
-        ∙ ap from (sym w.vector-is),
+            ∙ ap from (sym w.vector-is),
       )
     ]
 

@@ -1,15 +1,12 @@
 -- `testsets::compact::make` meets its contract: each turn stores the next vector of the set and drops what it catches, at least half of what is left.
 -- Assumes nothing.
-use Prim.Native.Nat.{◌*◌, ◌≤◌}
+use Prim.Native.Nat.{◌*◌}
 use mathlib.Core.Path.{ap}
 use Rattle.faults.proofs.SiteCount.{site_count-le}
 use Rattle.testsets.proofs.Picks.{compact_few}
 use native.Mathlib.Omega.{arith}
-use lib.ListN.{length}
-use borrow.Author.Rules.{rules}
 use Rattle.circuit.specs.Gates.{gates_of}
-use Rattle.testsets.specs.Sets.{bound}
-use Rattle.testsets.proofs.PickTurns.{Picking, picking_begin, picking_place, picking_catches, picking_turn, picking_end, picking_done}
+use Rattle.testsets.proofs.PickTurns.{picking_begin, picking_place, picking_catches, picking_turn, picking_end, picking_done}
 use Rattle.testsets.proofs.PickTurns.{picking_long, picking_fits}
 use Rattle.testsets.proofs.compact.make.Goals as goal
 

@@ -1,14 +1,13 @@
 -- `testsets::left::all_sites` meets its contract: each turn stores the sites of one level. Assumes nothing.
-use Prim.Native.Nat.{ℕ, ◌+◌, ◌-◌, ◌≤◌}
+use Prim.Native.Nat.{ℕ}
 use mathlib.Core.Path.{◌≡◌, refl, ap, ◌∙◌}
 use native.Mathlib.Omega.{arith}
 use lib.ListN.{length, replicate, length-replicate}
-use borrow.Author.Rules.{rules}
 use Rattle.circuit.specs.Gates.{gates_of}
 use Rattle.circuit.specs.Limits.{levels}
 use Rattle.circuit.proofs.GateLaws.{gates_count}
 use Rattle.faults.specs.Sites.{sites}
-use Rattle.testsets.proofs.Changes.{Changed, changed_none, changed-more}
+use Rattle.testsets.proofs.Changes.{changed_none, changed-more}
 use Rattle.testsets.proofs.left.all_sites.Goals as goal
 
 pub loop-i-init : goal.loop-i-init

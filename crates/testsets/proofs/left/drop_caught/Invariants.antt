@@ -1,18 +1,12 @@
 -- `testsets::left::drop_caught` meets its contract: each turn takes from the words of one level what the vector catches there, and the last level
 -- comes after the loop. Assumes nothing.
-use Prim.Native.Nat.{suc, ◌+◌, ◌-◌, ◌<◌}
-use mathlib.Core.Path.{◌≡◌, ap}
-use native.Mathlib.Omega.{arith}
+use Prim.Native.Nat.{◌-◌}
 use lib.Bits.{bit_and}
-use lib.ListN.{length, get_or}
-use borrow.Author.Rules.{rules}
 use Rattle.words.specs.WordOf.{lacking}
 use Rattle.circuit.specs.Gates.{gates_of}
 use Rattle.circuit.specs.Runs.{forward}
-use Rattle.marking.proofs.Levels.{AtLevel, level_first, level_target, level_next}
-use Rattle.testsets.specs.Left.{Left}
-use Rattle.testsets.proofs.Changes.{Changed, changed_none, changed-more}
-use Rattle.testsets.proofs.LeftLaws.{left-dropped, still_left}
+use Rattle.marking.proofs.Levels.{AtLevel}
+use Rattle.testsets.proofs.Changes.{Changed}
 use Rattle.testsets.proofs.left.drop_caught.Given as goal
 
 abbrev pub invariant-loop-i : goal.invariant-loop-i

@@ -1,5 +1,4 @@
 -- `testsets::left::drop_level` meets its contract: each of the two words is changed as the contract says. Assumes nothing.
-use borrow.Author.Rules.{rules}
 use Rattle.testsets.proofs.left.drop_level.Goals as goal
 
 pub returns : goal.returns

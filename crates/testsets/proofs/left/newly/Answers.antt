@@ -1,6 +1,5 @@
 -- `testsets::left::newly` meets its contract: the ones of one word, made of the state and the two words of its level. Assumes nothing.
 use mathlib.Core.Path.{◌∙◌}
-use borrow.Author.Rules.{rules}
 use Rattle.testsets.proofs.left.newly.Goals as goal
 
 pub returns : goal.returns

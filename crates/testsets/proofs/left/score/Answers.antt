@@ -1,16 +1,12 @@
 -- `testsets::left::score` meets its contract: each turn adds what the vector catches at one level and goes one level up, and the last level
 -- comes after the loop. Assumes nothing.
-use Prim.Native.Nat.{◌+◌, ◌-◌, ◌*◌, ◌^◌, ◌<◌, ◌≤◌}
-use mathlib.Core.Path.{◌≡◌}
+use Prim.Native.Nat.{◌≤◌}
 use native.Mathlib.Omega.{arith}
-use borrow.Author.Rules.{rules}
 use Rattle.words.proofs.AndLaws.{length_lines_le}
 use Rattle.circuit.specs.Gates.{gates_of}
 use Rattle.circuit.specs.Limits.{most_lines}
-use Rattle.marking.proofs.Levels.{AtLevel, level_first, level_target, level_next}
-use Rattle.testsets.specs.Left.{left_of}
-use Rattle.testsets.specs.Sets.{score}
-use Rattle.testsets.proofs.LeftLaws.{caught_from, score-all, score-more, score_last}
+use Rattle.marking.proofs.Levels.{level_first, level_target, level_next}
+use Rattle.testsets.proofs.LeftLaws.{score-all, score-more, score_last}
 use Rattle.testsets.proofs.left.score.Goals as goal
 
 pub loop-i-init : goal.loop-i-init

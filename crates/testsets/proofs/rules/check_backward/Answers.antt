@@ -1,11 +1,9 @@
 -- `testsets::rules::check_backward` meets its contract: the rules of the circuit come first, then rule 10. Assumes nothing.
-use mathlib.Core.Path.{ap, sym, ◌∙◌}
-use Rattle.refusals.specs.Checks.{fine, found}
+use Rattle.refusals.specs.Checks.{fine}
 use Rattle.refusals.proofs.Tables.{refused_on}
 use Rattle.circuit.specs.Rules.{circuit_rows}
 use Rattle.testsets.specs.Rules.{backward_rows}
 use Rattle.testsets.proofs.RuleLaws.{backward_short, backward-fine}
-use borrow.Author.Rules.{rules}
 use Rattle.testsets.proofs.rules.check_backward.Goals as goal
 
 pub returns-in-Wrong : goal.returns-in-Wrong

@@ -1,13 +1,11 @@
 -- `testsets::rules::check_compact` meets its contract: the rules of the circuit come first, then rule 11 and rule 10. Assumes nothing.
-use mathlib.Core.Path.{ap, sym, ◌∙◌}
 use native.Mathlib.Omega.{arith}
-use Rattle.refusals.specs.Checks.{fine, found}
+use Rattle.refusals.specs.Checks.{fine}
 use Rattle.refusals.proofs.Tables.{refused_on}
 use Rattle.circuit.specs.Rules.{circuit_rows}
 use Rattle.circuit.proofs.RuleLaws.{sound}
 use Rattle.testsets.specs.Rules.{compact_rows}
 use Rattle.testsets.proofs.RuleLaws.{compact_lines, compact_short, compact_fine}
-use borrow.Author.Rules.{rules}
 use Rattle.testsets.proofs.rules.check_compact.Goals as goal
 
 pub returns-in-Wrong : goal.returns-in-Wrong

@@ -1,9 +1,7 @@
 -- `testsets::rules::log2` meets its contract: each halving takes one from the logarithm of what is left. Assumes nothing.
 use Prim.Native.Nat.{◌+◌, ◌≤◌}
 use mathlib.Core.Path.{◌≡◌}
-use native.Mathlib.Omega.{arith}
 use Rattle.testsets.specs.Log2.{log2}
-use Rattle.testsets.proofs.Log2Laws.{log2_half, log2_small}
 use Rattle.testsets.proofs.rules.log2.Given as goal
 
 abbrev pub invariant-loop-left : goal.invariant-loop-left

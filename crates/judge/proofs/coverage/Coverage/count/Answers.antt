@@ -1,10 +1,8 @@
 -- `judge::coverage::Coverage::count` meets its contract: the check is the whole table, and the class says which marks are counted. Assumes nothing.
-use mathlib.Core.Path.{ap, sym, ◌∙◌}
-use Rattle.refusals.specs.Checks.{found}
+use mathlib.Core.Path.{◌∙◌}
 use Rattle.refusals.proofs.Tables.{refused_all, fine-all}
 use Rattle.judge.specs.Rules.{count_rows}
 use Rattle.judge.proofs.RuleLaws.{count_ok}
-use borrow.Author.Rules.{rules}
 use Rattle.judge.proofs.coverage.Coverage.count.Goals as goal
 
 pub counted-requires : goal.counted-requires

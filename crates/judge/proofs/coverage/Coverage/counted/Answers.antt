@@ -2,7 +2,6 @@
 use mathlib.Core.Path.{sym, ◌∙◌}
 use Rattle.circuit.specs.Gates.{gates_of}
 use Rattle.judge.proofs.SetLaws.{verdict-levels, verdict_gates, verdict_controls, verdict_extras, verdict_none}
-use borrow.Author.Rules.{rules}
 use Rattle.judge.proofs.coverage.Coverage.counted.Goals as goal
 
 pub returns-then-class-eq1 : goal.returns-then-class-eq1

@@ -1,6 +1,5 @@
 -- `judge::coverage::Coverage::marked` meets its contract: each class marks words of its own. Assumes nothing.
 use Rattle.judge.specs.Coverages.{with_vector}
-use borrow.Author.Rules.{rules}
 use Rattle.judge.proofs.coverage.Coverage.marked.Goals as goal
 
 pub returns : goal.returns

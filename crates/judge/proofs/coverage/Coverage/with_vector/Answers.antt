@@ -1,13 +1,11 @@
 -- `judge::coverage::Coverage::with_vector` meets its contract: a refusal hands the coverage back, and any other vector adds its marks. Assumes
 -- nothing.
-use mathlib.Core.Path.{ap, sym, ◌∙◌}
+use mathlib.Core.Path.{ap, ◌∙◌}
 use borrow.Author.Tests.{ne_eqb}
-use Rattle.refusals.specs.Checks.{found}
 use Rattle.refusals.proofs.Tables.{refused_number, after-refused, after-fine}
 use Rattle.circuit.proofs.RuleLaws.{vector_numbered, vector_ok}
 use Rattle.judge.specs.Answers.{told_beside}
 use Rattle.judge.specs.Rules.{add_rows}
-use borrow.Author.Rules.{rules}
 use Rattle.judge.proofs.coverage.Coverage.with_vector.Goals as goal
 
 pub marked-coverage-requires : goal.marked-coverage-requires
