@@ -7,7 +7,7 @@ use native.Mathlib.Omega.{arith}
 use lib.ListN.{length, length-map}
 use lib.Dec.{eqb}
 use borrow.Author.Tests.{le-leb, eqb-true, not-false}
-use Rattle.basics.specs.Lists.{up_from, keep, each, some, All}
+use Rattle.basics.specs.Lists.{up_from, keep, each, All}
 use Rattle.basics.proofs.Tests.{and-true, choice-true, choice-false}
 use Rattle.basics.proofs.Rising.{rising_up, rising_keep}
 use Rattle.basics.proofs.Lists.{all-up_from, length-up_from}
@@ -181,14 +181,14 @@ gates_read n at (g ∷ gs) h =
 
 -- ---- the whole text
 
-abbrev all_lines : ℕ → List ℕ → List (List Word)
-all_lines n words = head_lines n ++ (map (gate_line n) (gates_of words) ++ ((ascii ".end" ∷ []) ∷ []))
+abbrev every_line : ℕ → List ℕ → List (List Word)
+every_line n words = head_lines n ++ (map (gate_line n) (gates_of words) ++ ((ascii ".end" ∷ []) ∷ []))
 
 visible_gates : (n : ℕ) (gs : List Gate) → All (All Visible) (map (gate_line n) gs ++ ((ascii ".end" ∷ []) ∷ []))
 visible_gates n [] = ((v_end, tt), tt)
 visible_gates n (g ∷ gs) = (visible_gate n g, visible_gates n gs)
 
-visible_lines : (n : ℕ) (words : List ℕ) → All (All Visible) (all_lines n words)
+visible_lines : (n : ℕ) (words : List ℕ) → All (All Visible) (every_line n words)
 unfolding head_lines
 visible_lines n words = (
   (v_version, (v_one, tt)),
@@ -202,9 +202,9 @@ visible_lines n words = (
 )
 
 -- the text's lines are the lines of its words
-pub text_lines : (n : ℕ) (words : List ℕ) → lines_of (real_text n words) ≡ map joined (all_lines n words)
+pub text_lines : (n : ℕ) (words : List ℕ) → lines_of (real_text n words) ≡ map joined (every_line n words)
 unfolding real_text
-text_lines n words = joined_lines (all_lines n words) (visible_lines n words)
+text_lines n words = joined_lines (every_line n words) (visible_lines n words)
 
 pub text_read : (n : ℕ) (words : List ℕ) → n ≤ 32 → All (OnLines n) (gates_of words)
     → reading (real_text n words) ≡ circuit n (each flat (gates_of words))
