@@ -1,0 +1,12 @@
+-- `answers::jobs::text_of` meets its contract: in each case the fields are those of what is told. Assumes nothing.
+use mathlib.Core.Path.{ap, sym, ◌∙◌}
+use Rattle.report_text.specs.Answers.{told_reported}
+use Rattle.answers.specs.Fields.{fields}
+use borrow.Author.Rules.{rules}
+use Rattle.answers.proofs.jobs.text_of.Goals as goal
+
+pub returns-in-Bytes : goal.returns-in-Bytes
+returns-in-Bytes c = c.counted.ensures ∙ ap (λ e. fields 1 (told_reported e)) (sym c.in-Bytes.is)
+
+pub returns-in-Refused : goal.returns-in-Refused
+returns-in-Refused c = c.none_counted.ensures ∙ ap (λ e. fields 1 (told_reported e)) (sym c.in-Refused.is)
