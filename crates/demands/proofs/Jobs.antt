@@ -135,24 +135,24 @@ writes n classes words xs room exit unbroken made =
     }
 
 module _ (bytes : List ℕ) where
-  gate_words : length (gate_words bytes) ≡ 3 * gates_in bytes
+  gate_words_lem : length (gate_words bytes) ≡ 3 * gates_in bytes
   unfolding gate_words
-  gate_words = length-words (3 * gates_in bytes) bytes 28
+  gate_words_lem = length-words (3 * gates_in bytes) bytes 28
 
-  pub vector_words : length (vector_words bytes) ≡ vectors_in bytes
+  pub vector_words_lem : length (vector_words bytes) ≡ vectors_in bytes
   unfolding vector_words
-  vector_words = length-words (vectors_in bytes) bytes (28 + 12 * gates_in bytes)
+  vector_words_lem = length-words (vectors_in bytes) bytes (28 + 12 * gates_in bytes)
 
   pub gate_number : gates_in bytes ≡ length (gates_of (gate_words bytes))
-  gate_number = omega (arith, gates_count (gate_words bytes), gate_words)
+  gate_number = omega (arith, gates_count (gate_words bytes), gate_words_lem)
 
   module _ (gate_room vector_room : ℕ) (unbroken : fine ≡ first_of (read_rows bytes gate_room vector_room) fine) where
     pub held-fine : fine ≡ first_of (set_rows (lines_in bytes) (gate_words bytes) (vector_words bytes)) fine
     held-fine =
         let ok = read_ok bytes gate_room vector_room unbroken in
         let h = ok.head in
-        set-fine (lines_in bytes) (gate_words bytes) (vector_words bytes) h.some_lines h.lines_fit (omega (arith, gate_words, h.gates_fit))
-        (omega (arith, vector_words, h.vectors_fit)) ok.gates_good ok.vectors_good
+        set-fine (lines_in bytes) (gate_words bytes) (vector_words bytes) h.some_lines h.lines_fit (omega (arith, gate_words_lem, h.gates_fit))
+        (omega (arith, vector_words_lem, h.vectors_fit)) ok.gates_good ok.vectors_good
 
     pub held-set : VectorsOk (lines_in bytes) (gate_words bytes) (vector_words bytes)
     held-set = vectors_ok (lines_in bytes) (gate_words bytes) (vector_words bytes) held-fine
@@ -181,7 +181,7 @@ module _ (bytes : List ℕ) where
         gs = gates_of (gate_words bytes);
         job = held-job (length gates) (length vectors) unbroken;
         is-image = held-image (length gates) (length vectors) unbroken;
-        values-are = ap₂ (λ d m. lines_in bytes ∷ classes_in bytes ∷ d ∷ m ∷ []) gate_number (sym vector_words);
+        values-are = ap₂ (λ d m. lines_in bytes ∷ classes_in bytes ∷ d ∷ m ∷ []) gate_number (sym vector_words_lem);
         gates_front = made-gates ∙ sym (after-fine rows _ _ unbroken);
         vectors_front = made-vectors ∙ sym (after-fine rows _ _ unbroken);
       }

@@ -24,7 +24,7 @@ use Rattle.job.proofs.RoundTrip.{read_written_fine}
 use Rattle.demands.proofs.Valid.{Valid, no_bad_gate, circuit_set_valid}
 use Rattle.demands.proofs.ValidCalls.{its_gates}
 use Rattle.demands.proofs.ValidRows.{Fine, vectors_valid, set_valid}
-use Rattle.demands.proofs.Jobs.{image_of, image-is, set-fine, gate_number, vector_words, held-fine, held-image}
+use Rattle.demands.proofs.Jobs.{image_of, image-is, set-fine, gate_number, vector_words_lem, held-fine, held-image}
 
 -- a job: a valid circuit, at most 2,048 vectors of it, and some of the four classes
 pub record ValidJob (n classes : ℕ) (words xs : List ℕ) (gs : List Gate) : Type 0 where
@@ -122,7 +122,7 @@ module _ (bytes : List ℕ) (all : All (λ b. b < 256) bytes) (gate_room vector_
             };
             is-image = held-image bytes gate_room vector_room e all;
             gates_room = omega (arith, gate_number bytes, ok.gates_room);
-            vectors_room = omega (arith, vector_words bytes, ok.vectors_room);
+            vectors_room = omega (arith, vector_words_lem bytes, ok.vectors_room);
           }
 
       passes : IsJob bytes gate_room vector_room → Fine (read_rows bytes gate_room vector_room)
