@@ -19,7 +19,7 @@ use Rattle.circuit.specs.declared.Gate.{Gate}
 use Rattle.faults.specs.declared.Fault.{Fault}
 use Rattle.faults.specs.Classes.{class_faults}
 use Rattle.faults.specs.Rules.{is_fault}
-use Rattle.judge.specs.Judging.{caught_by_some, verdict}
+use Rattle.judge.specs.Judging.{caught_by_some}
 use Rattle.marking.specs.Marks.{marked}
 use Rattle.judge.specs.Coverages.{with_vector, with_all, is_marked}
 use Rattle.judge.specs.declared.coverage.Coverage.{Coverage}

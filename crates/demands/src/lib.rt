@@ -1,3 +1,2 @@
 // The demands as theorems; no code.
 #![tactic(auto)]
-

@@ -2,7 +2,6 @@
 use mathlib.Core.Path.{ap, sym}
 use Rattle.simulator.specs.Answers.{told_caught}
 use Rattle.answers.specs.Fields.{fields}
-use borrow.Author.Rules.{rules}
 use Rattle.answers.proofs.catch_of.Goals as goal
 
 pub returns-in-Yes : goal.returns-in-Yes

@@ -2,7 +2,6 @@
 use mathlib.Core.Path.{ap, sym, ◌∙◌}
 use Rattle.dropping.specs.Answers.{told_dropped}
 use Rattle.answers.specs.Fields.{fields}
-use borrow.Author.Rules.{rules}
 use Rattle.answers.proofs.left_of.Goals as goal
 
 pub returns-in-Left : goal.returns-in-Left

@@ -2,7 +2,6 @@
 use mathlib.Core.Path.{ap, sym, ◌∙◌}
 use Rattle.testsets.specs.Answers.{told_made}
 use Rattle.answers.specs.Fields.{fields}
-use borrow.Author.Rules.{rules}
 use Rattle.answers.proofs.made_of.Goals as goal
 
 pub returns-in-Count : goal.returns-in-Count

@@ -2,7 +2,6 @@
 use mathlib.Core.Path.{ap, sym}
 use Rattle.circuit.specs.Answers.{told_ran}
 use Rattle.answers.specs.Fields.{fields}
-use borrow.Author.Rules.{rules}
 use Rattle.answers.proofs.run_of.Goals as goal
 
 pub returns-in-State : goal.returns-in-State

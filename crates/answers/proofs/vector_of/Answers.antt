@@ -2,7 +2,6 @@
 use mathlib.Core.Path.{ap, sym}
 use Rattle.fault_test.specs.Answers.{told_test}
 use Rattle.answers.specs.Fields.{fields}
-use borrow.Author.Rules.{rules}
 use Rattle.answers.proofs.vector_of.Goals as goal
 
 pub returns-in-Vector : goal.returns-in-Vector

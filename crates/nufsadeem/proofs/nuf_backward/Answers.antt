@@ -1,7 +1,6 @@
 -- `nufsadeem::nuf_backward` meets its contract: its fields are those of what `circuit::backward` tells. Assumes nothing.
 use mathlib.Core.Path.{ap, ◌∙◌}
 use Rattle.answers.specs.Fields.{fields}
-use borrow.Author.Rules.{rules}
 use Rattle.nufsadeem.proofs.nuf_backward.Goals as goal
 
 pub returns : goal.returns

@@ -1,7 +1,6 @@
 -- `nufsadeem::nuf_forward` meets its contract: its fields are those of what `circuit::forward` tells. Assumes nothing.
 use mathlib.Core.Path.{ap, ◌∙◌}
 use Rattle.answers.specs.Fields.{fields}
-use borrow.Author.Rules.{rules}
 use Rattle.nufsadeem.proofs.nuf_forward.Goals as goal
 
 pub returns : goal.returns

@@ -2,7 +2,6 @@
 use mathlib.Core.Path.{ap, sym, ◌∙◌}
 use Rattle.job.specs.Answers.{told_written}
 use Rattle.answers.specs.Fields.{fields}
-use borrow.Author.Rules.{rules}
 use Rattle.answers.proofs.jobs.bytes_of.Goals as goal
 
 pub returns-in-Bytes : goal.returns-in-Bytes

@@ -2,7 +2,6 @@
 use mathlib.Core.Path.{ap, sym, ◌∙◌}
 use Rattle.report_text.specs.Answers.{told_reported}
 use Rattle.answers.specs.Fields.{fields}
-use borrow.Author.Rules.{rules}
 use Rattle.answers.proofs.jobs.text_of.Goals as goal
 
 pub returns-in-Bytes : goal.returns-in-Bytes

@@ -2,7 +2,6 @@
 use mathlib.Core.Path.{ap, sym}
 use Rattle.real_import.specs.Answers.{told_imported}
 use Rattle.answers.specs.Fields.{fields}
-use borrow.Author.Rules.{rules}
 use Rattle.answers.proofs.texts.circuit_of.Goals as goal
 
 pub returns-in-Circuit : goal.returns-in-Circuit

@@ -2,7 +2,6 @@
 use mathlib.Core.Path.{ap, sym, ◌∙◌}
 use Rattle.real_export.specs.Answers.{told_exported}
 use Rattle.answers.specs.Fields.{fields}
-use borrow.Author.Rules.{rules}
 use Rattle.answers.proofs.texts.length_of.Goals as goal
 
 pub returns-in-Bytes : goal.returns-in-Bytes

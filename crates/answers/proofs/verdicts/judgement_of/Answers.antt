@@ -3,7 +3,6 @@ use mathlib.Core.Path.{ap, sym, ◌∙◌}
 use mathlib.Core.List.{◌∷◌}
 use Rattle.judge.specs.Answers.{told_verdict}
 use Rattle.answers.specs.Fields.{fields}
-use borrow.Author.Rules.{rules}
 use Rattle.answers.proofs.verdicts.judgement_of.Goals as goal
 
 pub returns-in-Complete : goal.returns-in-Complete

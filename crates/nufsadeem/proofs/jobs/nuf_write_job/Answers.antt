@@ -2,7 +2,6 @@
 -- Assumes nothing.
 use mathlib.Core.Path.{ap, ◌∙◌}
 use Rattle.answers.specs.Fields.{fields}
-use borrow.Author.Rules.{rules}
 use Rattle.nufsadeem.proofs.jobs.nuf_write_job.Goals as goal
 
 pub returns : goal.returns

@@ -1,7 +1,6 @@
 -- `nufsadeem::judging::nuf_cover` meets its contract: its fields are those of what `judge::covering::cover` tells. Assumes nothing.
 use mathlib.Core.Path.{ap, ◌∙◌}
 use Rattle.answers.specs.Fields.{fields}
-use borrow.Author.Rules.{rules}
 use Rattle.nufsadeem.proofs.judging.nuf_cover.Goals as goal
 
 pub returns : goal.returns

@@ -1,7 +1,6 @@
 -- `nufsadeem::judging::nuf_judge` meets its contract: its fields are those of what `judge::judge` tells. Assumes nothing.
 use mathlib.Core.Path.{ap, ◌∙◌}
 use Rattle.answers.specs.Fields.{fields}
-use borrow.Author.Rules.{rules}
 use Rattle.nufsadeem.proofs.judging.nuf_judge.Goals as goal
 
 pub returns : goal.returns
