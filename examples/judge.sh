@@ -1,6 +1,6 @@
 #!/usr/bin/env bash
-# Judges a job file, prints its report, and says by the exit status what came of it. A Rattle program has no exit status, so the
-# report is looked at: it is whole only when it has the lines that the job asks for, and nothing else.
+# Judges a job file, prints its report, and says by the exit status what came of it. The report program ends with 0 whatever it says, so
+# the report is looked at: it is whole only when it has the lines that the job asks for, and nothing else.
 #
 #   examples/judge.sh my.job
 #
@@ -9,12 +9,12 @@
 #   2   the job is refused
 #   3   no whole report came: the job could not be read, or the report not be written
 #
-# NUF_REPORT is a program to run instead of target/bin/report of this repository, as it stands on this machine.
+# NUF_REPORT is a program to run instead of crates/report/out/report of this repository, as it stands on this machine.
 set -uo pipefail
 
 here=$(cd "$(dirname "${BASH_SOURCE[0]}")" && pwd)
 . "$here/start.sh"
-program=("${start[@]}" "$here/../target/bin/report")
+program=("${start[@]}" "$here/../crates/report/out/report")
 [ -z "${NUF_REPORT:-}" ] || program=("$NUF_REPORT")
 
 no_report() {
@@ -24,7 +24,7 @@ no_report() {
 
 [ $# = 1 ] || no_report "usage: examples/judge.sh JOB"
 [ -r "$1" ] || no_report "$1 can't be read"
-[ -x "${program[-1]}" ] || no_report "${program[-1]} is not there; rt check report makes it"
+[ -x "${program[-1]}" ] || no_report "${program[-1]} is not there; rt run in crates/report makes it"
 
 # the job is looked at twice, so what can be read only once is copied first
 said=$(mktemp) job=$(mktemp)

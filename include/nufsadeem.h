@@ -1,4 +1,4 @@
-/* Nufsadeem for C. Link libnufsadeem.a, which `rt staticlib nufsadeem` writes.
+/* Nufsadeem for C. Link libnufsadeem.a, which `host/archive` makes.
  *
  * Every call takes any numbers, any bytes and any lengths, and says in its answer whether it refuses them.
  *

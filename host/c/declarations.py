@@ -71,10 +71,10 @@ def c_pair(kind, name):
 
 
 def library():
-    text = read(ROOT.glob("crates/*/src/**/*.rt"), r"//.*$", re.M)
     found = Declared("the library")
-    found.add_structs(text)
-    exported = r'#\[no_mangle\]\s*pub extern "C" fn (\w+)\((.*?)\)\s*-> (\w+)'
+    found.add_structs(read(ROOT.glob("crates/*/src/**/*.rt"), r"//.*$", re.M))
+    text = read(ROOT.glob("crates/nufsadeem_c/src/**/*.rt"), r"//.*$", re.M)
+    exported = r'#\[unsafe\(no_mangle\)\]\s*pub extern "C" fn (\w+)\((.*?)\)\s*-> (\w+)'
     for name, parameters, answer in re.findall(exported, text, re.S):
         found.functions[name] = ([part for pair in pairs(parameters) for part in lent(*pair)], answer)
     return found

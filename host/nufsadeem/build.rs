@@ -1,4 +1,4 @@
-//! Tells cargo where `rt staticlib nufsadeem` leaves the archive.
+//! Tells cargo where `host/archive` leaves the archive.
 
 use std::path::Path;
 
@@ -8,7 +8,7 @@ fn main() {
     println!("cargo:rustc-link-search=native={}", archives.display());
     println!("cargo:rerun-if-changed={}", archives.display());
     if !archives.join("libnufsadeem.a").exists() {
-        println!("cargo:warning=there is no archive to link; `rt staticlib nufsadeem` makes it");
+        println!("cargo:warning=there is no archive to link; `host/archive` makes it");
     }
     if std::env::var("CARGO_CFG_TARGET_ARCH").as_deref() != Ok("x86_64") {
         println!("cargo:warning=the archive is x86-64 code; host/run has a way to link and run it on Arm");

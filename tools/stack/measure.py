@@ -15,7 +15,7 @@ NOT_RUN = 77
 
 def main(what):
     if not ARCHIVE.exists():
-        sys.exit(f"stack: {ARCHIVE.relative_to(ROOT)} is not there; rt staticlib nufsadeem makes it")
+        sys.exit(f"stack: {ARCHIVE.relative_to(ROOT)} is not there; host/archive makes it")
     text = TABLE.read_text()
     archive = read(ARCHIVE)
     if archive.pointed_at:

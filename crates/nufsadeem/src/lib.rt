@@ -1,5 +1,6 @@
 // The C interface: each call of the library under a C name, its answer a struct by value. `include/nufsadeem.h` declares it.
 // An answer's fields, in their order, are the `fields` of what the wrapped call tells.
+// These are for Rattle code and its theorems: a library exports nothing, so `nufsadeem_c` exports each of them once more.
 #![tactic(auto)]
 
 ghost use Rattle.std.specs.Prelude.{◌≡◌, [], ◌∷◌};

@@ -12,7 +12,7 @@ pub struct Program {
     runs: Cell<u64>,
 }
 
-/// What the program said. It has no exit status of its own, and always ends with 0.
+/// What the program said. It always ends with 0.
 #[derive(PartialEq, Eq, Debug)]
 pub struct Said {
     status: Option<i32>,
