@@ -56,19 +56,21 @@ def reaches(i, depth):
 
 
 def probing(body):
-    """A frame of many pages is taken a page at a time, in a loop down to a bound. One instruction takes the place of these six."""
+    """A frame of many pages is taken in steps of a page or less, in a loop down to a bound. One instruction takes the place of these six."""
     out = list(body)
     for k in range(len(body) - 5):
-        bound, less, page, store, test, again = six = body[k : k + 6]
+        bound, less, step, store, test, again = six = body[k : k + 6]
         if (
             [i.name for i in six] == ["mov", "sub", "sub", "movq", "cmp", "jne"]
             and bound.operands[0] == "%rsp"
             and (taken := constant(less.operands[0]) or 0) > 0
             and less.operands[1] == bound.operands[1]
-            and page.operands == ["$0x1000", "%rsp"]
+            and (each := constant(step.operands[0]) or 0) > 0
+            and taken % each == 0  # or the loop would not end at the bound
+            and step.operands[1] == "%rsp"
             and store.operands == ["$0x0", "(%rsp)"]
             and test.operands == [bound.operands[1], "%rsp"]
-            and target(again) == page.at
+            and target(again) == step.at
         ):
             out[k : k + 6] = [bound._replace(name="probes", operands=[taken])] + [None] * 5
     return [i for i in out if i]

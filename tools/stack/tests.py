@@ -48,7 +48,10 @@ class Frames(unittest.TestCase):
 
     def test_a_frame_of_many_pages(self):
         loop = "mov %rsp,%r11\n sub $0x3000,%r11\n sub $0x1000,%rsp\n movq $0x0,(%rsp)\n cmp %r11,%rsp\n jne 20 <f+0x20>\n"
-        self.assertEqual(frame(loop + "add $0x3000,%rsp\n ret").deepest, 8 + 0x3000)
+        for step in "0x1000", "0xc00":
+            self.assertEqual(frame(loop.replace("0x1000", step) + "add $0x3000,%rsp\n ret").deepest, 8 + 0x3000)
+        with self.assertRaises(NotRead):
+            frame(loop.replace("0x1000", "0xb00") + "add $0x3000,%rsp\n ret")
 
     def test_a_jump_by_a_table(self):
         self.assertEqual(frame("push %rax\n jmp *%rdx\n pop %rax\n ret\n sub $0x8,%rsp\n add $0x10,%rsp\n ret").deepest, 8 + 16)
