@@ -3,13 +3,13 @@
 #![tactic(auto)]
 
 ghost use Rattle.std.specs.Prelude.{◌≡◌, ◌≤◌, length, take};
-ghost use Rattle.io.specs.Counts.{IsPrefixLen};
+ghost use Rattle.std.specs.Counts.{IsPrefixLen};
 ghost use Rattle.report_text.specs.Report.{report_text, input_room};
 ghost use Rattle.report.specs.Input.{Within};
 
-use libc::{STDERR_FILENO, STDIN_FILENO, STDOUT_FILENO};
 use report_text::Reported;
 use report_text::limits::{INPUT_ROOM, LONGEST_REPORT};
+use std::io::Read;
 
 // What is read of an input: as much as tells its report.
 const ROOM: usize = INPUT_ROOM;
@@ -21,31 +21,29 @@ enum Input {
     Unread,
 }
 
-fn main() {
+// What is read is within the room, which is the one that the promise of the text asks for. Nobody is left to be told that a complaint failed.
+fn main(rt: HostRuntime) {
     let mut job = [0u8; ROOM];
-    let Input::Bytes(length) = read_input(&mut job) else {
-        io::write_all(STDERR_FILENO, b"report: the input could not be read\n");
+    let Input::Bytes(length) = read_input(&mut rt.stdin(), &mut job) else {
+        let _ = rt.eprintln("report: the input could not be read");
         return;
     };
     let mut text = [0u8; LONGEST_REPORT];
     let end = text_of(&job, length, &mut text);
-    if !io::write_all(STDOUT_FILENO, &text[..end]) {
-        io::write_all(STDERR_FILENO, b"report: the report could not be written\n");
+    if rt.write_all(&text[..end]).is_err() {
+        let _ = rt.eprintln("report: the report could not be written");
     }
 }
 
-// Reads until the room is full or the input ends. A read answers 0 at the end and -1 where it fails.
-fn read_input(job: &mut [u8]) -> Input
+// Reads until the room is full or the input ends. A read answers 0 at the end and an error where it fails.
+fn read_input(input: &mut impl Read, job: &mut [u8]) -> Input
     ensures { Within result (length job.old) }
 {
     let mut done = 0;
     while done < job.len() {
-        let part = &mut job[done..];
-        let got = libc::read(STDIN_FILENO, part);
-        if got < 0 {
+        let Ok(more) = input.read(&mut job[done..]) else {
             return Input::Unread;
-        }
-        let more = io::count(got, part);
+        };
         if more == 0 {
             return Input::Bytes(done);
         }
