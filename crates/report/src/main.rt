@@ -5,7 +5,7 @@
 ghost use Rattle.std.specs.Prelude.{◌≡◌, ◌≤◌, length, take};
 ghost use Rattle.std.specs.Counts.{IsPrefixLen};
 ghost use Rattle.report_text.specs.Report.{report_text, input_room};
-ghost use Rattle.report.specs.Input.{Within};
+ghost use Rattle.report.specs.Input.{Within, IsFront};
 
 use report_text::Reported;
 use report_text::limits::{INPUT_ROOM, LONGEST_REPORT};
@@ -36,8 +36,9 @@ fn main(rt: HostRuntime) {
 }
 
 // Reads until the room is full or the input ends. A read answers 0 at the end and an error where it fails.
-fn read_input(input: &mut impl Read, job: &mut [u8]) -> Input
-    ensures { Within result (length job.old) }
+fn read_input<R: Read>(input: &mut R, job: &mut [u8]) -> Input
+    ensures within { Within result (length job.old) }
+    ensures front { IsFront result (R.remaining input.old) job.new }
 {
     let mut done = 0;
     while done < job.len() {
