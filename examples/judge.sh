@@ -24,7 +24,7 @@ no_report() {
 
 [ $# = 1 ] || no_report "usage: examples/judge.sh JOB"
 [ -r "$1" ] || no_report "$1 can't be read"
-[ -x "${program[-1]}" ] || no_report "${program[-1]} is not there; rt run in crates/report makes it"
+[ -x "${program[-1]}" ] || no_report "${program[-1]} is not there; (cd crates/report && rt run <stdin) makes it"
 
 # the job is looked at twice, so what can be read only once is copied first
 said=$(mktemp) job=$(mktemp)
