@@ -85,17 +85,17 @@ front_for_any {n} {words} {set} {gs = gs} circuit stands k e =
     subst (AnyLineCaught n words) (in_front_lem stands k e) (catches_any n words set gs circuit stands.catches_all)
 
 pub backward_any_line : Answers backward-set.Post (λ κs. told_made)
-    (λ κs (lines, (gates, _)) values (_, (_, (Room-after, _))). FrontForAny lines gates.now values Room-after.now)
+    (λ κs (lines, (gates, _)) values (_, (_, (room-after, _))). FrontForAny lines gates.now values room-after.now)
 backward_any_line = record { as_said = λ call values t. let w = backward_set_means.as_said call values t in front_for_any w.circuit w.stands }
 
 pub backward_any_line_in_c : AnswersInC c-backward-set.Post (λ κs r. r.number) (λ κs r. r.count ∷ [])
-    (λ κs (lines, (gates, _)) values (_, (_, (Room-after, _))). FrontForAny lines gates.now values Room-after.now)
+    (λ κs (lines, (gates, _)) values (_, (_, (room-after, _))). FrontForAny lines gates.now values room-after.now)
 backward_any_line_in_c = record { as_said = λ call z. let w = backward_set_in_c.as_said call z in front_for_any w.circuit w.stands }
 
 pub compact_any_line : Answers compact-set.Post (λ κs. told_made)
-    (λ κs (lines, (gates, _)) values (_, (_, (Room-after, _))). FrontForAny lines gates.now values Room-after.now)
+    (λ κs (lines, (gates, _)) values (_, (_, (room-after, _))). FrontForAny lines gates.now values room-after.now)
 compact_any_line = record { as_said = λ call values t. let w = compact_set_means.as_said call values t in front_for_any w.circuit w.stands }
 
 pub compact_any_line_in_c : AnswersInC c-compact-set.Post (λ κs r. r.number) (λ κs r. r.count ∷ [])
-    (λ κs (lines, (gates, _)) values (_, (_, (Room-after, _))). FrontForAny lines gates.now values Room-after.now)
+    (λ κs (lines, (gates, _)) values (_, (_, (room-after, _))). FrontForAny lines gates.now values room-after.now)
 compact_any_line_in_c = record { as_said = λ call z. let w = compact_set_in_c.as_said call z in front_for_any w.circuit w.stands }

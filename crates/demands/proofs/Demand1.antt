@@ -144,7 +144,7 @@ pub backward_set_refuses : Refuses backward-set.Post (λ κs. told_made)
 unfolding backward_rows circuit_set_rows circuit_rows
 backward_set_refuses = record { its_numbers = λ κs a. refl; in_order = in_turn_lem _ _ refl; exact = λ κs a r e p. (_, exactly _ _ _ p.0) }
 
-pub backward_set_leaves_lem : Leaves backward_set_refuses (λ κs (_, (_, (room, _))). room.now) (λ κs r (_, (_, (Room-after, _))). Room-after.now)
+pub backward_set_leaves_lem : Leaves backward_set_refuses (λ κs (_, (_, (room, _))). room.now) (λ κs r (_, (_, (room-after, _))). room-after.now)
 backward_set_leaves_lem = refusal_leaves _ (λ κs a r e p. p.1)
 
 pub compact_set_refuses : Refuses compact-set.Post (λ κs. told_made)
@@ -153,7 +153,7 @@ pub compact_set_refuses : Refuses compact-set.Post (λ κs. told_made)
 unfolding compact_rows circuit_set_rows circuit_rows
 compact_set_refuses = record { its_numbers = λ κs a. refl; in_order = in_turn_lem _ _ refl; exact = λ κs a r e p. (_, exactly _ _ _ p.0) }
 
-pub compact_set_leaves_lem : Leaves compact_set_refuses (λ κs (_, (_, (room, _))). room.now) (λ κs r (_, (_, (Room-after, _))). Room-after.now)
+pub compact_set_leaves_lem : Leaves compact_set_refuses (λ κs (_, (_, (room, _))). room.now) (λ κs r (_, (_, (room-after, _))). room-after.now)
 compact_set_leaves_lem = refusal_leaves _ (λ κs a r e p. p.1)
 
 -- real_export

@@ -109,7 +109,7 @@ unfolding backward_rows circuit_set_rows circuit_rows
 backward_set_refuses = in_c 1 (λ κs a. refl) (in_turn_lem _ _ refl) refl (λ κs a r e p. (_, p.0))
 
 pub backward_set_leaves_lem : Leaves backward_set_refuses.refuses
-    (λ κs (_, (_, (room, _))). room.now) (λ κs r (_, (_, (Room-after, _))). Room-after.now)
+    (λ κs (_, (_, (room, _))). room.now) (λ κs r (_, (_, (room-after, _))). room-after.now)
 backward_set_leaves_lem = refusal_leaves _ (λ κs a r e p. p.1)
 
 pub compact_set_refuses : RefusesInC compact-set.Post (λ κs r. r.number) (λ κs r. r.place) (λ κs r. r.count ∷ [])
@@ -118,7 +118,7 @@ pub compact_set_refuses : RefusesInC compact-set.Post (λ κs r. r.number) (λ �
 unfolding compact_rows circuit_set_rows circuit_rows
 compact_set_refuses = in_c 1 (λ κs a. refl) (in_turn_lem _ _ refl) refl (λ κs a r e p. (_, p.0))
 
-pub compact_set_leaves_lem : Leaves compact_set_refuses.refuses (λ κs (_, (_, (room, _))). room.now) (λ κs r (_, (_, (Room-after, _))). Room-after.now)
+pub compact_set_leaves_lem : Leaves compact_set_refuses.refuses (λ κs (_, (_, (room, _))). room.now) (λ κs r (_, (_, (room-after, _))). room-after.now)
 compact_set_leaves_lem = refusal_leaves _ (λ κs a r e p. p.1)
 
 pub export_refuses : RefusesInC export.Post (λ κs r. r.number) (λ κs r. r.place) (λ κs r. r.count ∷ [])

@@ -1,5 +1,5 @@
 -- Demand 3, over the contracts: where `compact_set` answers, which is for each valid circuit of at most 12 lines with room for the bound
--- (`compact_set_takes` of `Accepting`), its set catches every single stuck_at fault and every multiple one of 1 to 256 entries; each pick is the
+-- (`compact_set_takes` of `Accepting`), its set catches every single stuck-at fault and every multiple one of 1 to 256 entries; each pick is the
 -- input that catches the most of what is left, the smallest on a tie; and there are at most 2 + floor(log2 S) of them.
 use Prim.Native.Nat.{ℕ, suc, ◌+◌, ◌^◌, ◌≤◌, ◌<◌}
 use mathlib.Core.Path.{◌≡◌, sym, ◌∙◌}
@@ -36,11 +36,11 @@ abbrev pub AtMost : ℕ → List ℕ → ℕ → Type 0
 AtMost n words k = (gs : List Gate) × Circuit n words gs
     × ((log : ℕ) × (2 ^ log ≤ site_total n gs) × (site_total n gs < 2 ^ suc log) × (k ≤ 2 + log))
 
--- each is the smallest input that catches the most of the stuck_at faults that those before it leave, and at least half; none is left in the end
+-- each is the smallest input that catches the most of the stuck-at faults that those before it leave, and at least half; none is left in the end
 abbrev pub ByTheRule : ℕ → List ℕ → List ℕ → Type 0
 ByTheRule n words written = (gs : List Gate) × Circuit n words gs × ((faults : List Fault) × Class n gs 1 faults × Picks n gs faults written)
 
--- every stuck_at fault that the circuit has is caught by some vector of it
+-- every stuck-at fault that the circuit has is caught by some vector of it
 abbrev pub SingleCaught : ℕ → List ℕ → List ℕ → Type 0
 SingleCaught n words written = (gs : List Gate) × Circuit n words gs × EveryCaught n gs 1 written
 
@@ -73,7 +73,7 @@ module _ (made : Ended compact-set.Post) (k : ℕ) (told : told_made made.result
   old = let (_, (_, (room, _))) = made.inputs in room.now
 
   abbrev left : List ℕ
-  left = let (_, (_, (Room-after, _))) = made.exit in Room-after.now
+  left = let (_, (_, (room-after, _))) = made.exit in room-after.now
 
   abbrev written : List ℕ
   written = take k left
@@ -93,7 +93,7 @@ module _ (made : Ended compact-set.Post) (k : ℕ) (told : told_made made.result
   pub multiple_caught : MultipleCaught n words written
   multiple_caught = (made_so n words old left k is).3
 
-  -- and by what is told: every single stuck_at fault that `catches` takes with this circuit, whatever vector it was asked with, is told as caught
+  -- and by what is told: every single stuck-at fault that `catches` takes with this circuit, whatever vector it was asked with, is told as caught
   -- with some vector of the set
   pub every_single : (asked : Ended catches.Post)
       → let (lines, (gates, (_, (fault, _)))) = asked.inputs in

@@ -36,7 +36,7 @@ module _ (made : Ended compact-set.Post) (zero : made.result.number ≡ 0) where
   old = let (_, (_, (room, _))) = made.inputs in room.now
 
   abbrev left : List ℕ
-  left = let (_, (_, (Room-after, _))) = made.exit in Room-after.now
+  left = let (_, (_, (room-after, _))) = made.exit in room-after.now
 
   abbrev k : ℕ
   k = made.result.count

@@ -51,7 +51,7 @@ pub record Circuit (n : ℕ) (words : List ℕ) (gs : List Gate) : Type 0 where
   pub target_in : All (λ g. g.target < n) gs
   pub apart : All (λ g. Control g g.target → ⊥) gs
 
--- ---- class 1, stuck_at, one fault or several
+-- ---- class 1, stuck-at, one fault or several
 
 -- the lines that are stuck at level i are forced to their values, and every other line stays
 pub record Forced (fs : List Fault) (i s t : ℕ) : Type 0 where

@@ -88,7 +88,7 @@ SayGates names (line ∷ lines) gs = (g : Gate) × (more : List Gate) × (gs ≡
 
 -- ---- a text
 
--- some lines, by their words, say a circuit of n lines and these words of gates: what follows.version may be any words, as many names are
+-- some lines, by their words, say a circuit of n lines and these words of gates: what follows .version may be any words, as many names are
 -- declared as .numvars says, no kind of optional line comes twice, .begin and .end stand alone, and nothing follows
 pub record SayCircuit (lines : List (List Word)) (n : ℕ) (words : List ℕ) : Type 0 where
   pub version : List Word

@@ -78,10 +78,10 @@ pub nuf_import_of_export : (x : Ended nuf-export-real.Post) (i : Ended nuf-impor
     → let (lines, (gates, (out, _))) = x.inputs in
     let (_, (_, (out-after, _))) = x.exit in
     let (text, (room, _)) = i.inputs in
-    let (_, (Room-after, _)) = i.exit in
+    let (_, (room-after, _)) = i.exit in
     x.result.number ≡ 0 → text.now ≡ take x.result.count out-after.now → length gates.now ≤ length room.now
     → (i.result.number ≡ 0) × (i.result.place ≡ 0) × (i.result.lines ≡ lines) × (i.result.gates ≡ length gates.now / 3)
-    × (Room-after.now ≡ gates.now ++ drop (length gates.now) room.now)
+    × (room-after.now ≡ gates.now ++ drop (length gates.now) room.now)
 nuf_import_of_export x i z same fits =
     let w = import_of_export nuf_export_real_exports nuf_import_real_imports x x.result.count (exports x z) i same fits in
     let e = w.answers-circuit in
@@ -90,10 +90,10 @@ nuf_import_of_export x i z same fits =
 -- An import with number 0 has read what its text says.
 pub nuf_import_answers : (i : Ended nuf-import-real.Post)
     → let (text, (room, _)) = i.inputs in
-    let (_, (Room-after, _)) = i.exit in
+    let (_, (room-after, _)) = i.exit in
     i.result.number ≡ 0
     → (words : List ℕ) × OfForm text.now i.result.lines words × (length words ≡ 3 * i.result.gates)
-    × (Room-after.now ≡ words ++ drop (length words) room.now)
+    × (room-after.now ≡ words ++ drop (length words) room.now)
 nuf_import_answers i z =
     let w = import_answers nuf_import_real_imports i i.result.lines i.result.gates (imports i z) in
     (w.0, w.1, w.2, w.3.leaves-words)

@@ -148,7 +148,7 @@ unfolding export_rows circuit_rows circuit_set_rows
 export_spelled n words room =
     lines_rule n then whole_rule words 0 then gates_rule n words then room_rule (length (real_text n words)) room then done
 
--- a text that is read: where 15 and 14 are kept it reads as a circuit, as `RulesOfTexts.kept-reads` says, and the others ask that one
+-- a text that is read: where 15 and 14 are kept it reads as a circuit, as `RulesOfTexts.kept_reads` says, and the others ask that one
 abbrev pub import_asked : List ℕ → ℕ → List Asked
 import_asked text room =
     let n = lines_read (reading text) in

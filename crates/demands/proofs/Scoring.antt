@@ -1,4 +1,4 @@
--- What the score of a vector is, by which the compact set picks: the number of the stuck_at faults still left that it catches.
+-- What the score of a vector is, by which the compact set picks: the number of the stuck-at faults still left that it catches.
 -- It is counted by one walk through the circuit with one running state, level by level.
 use Prim.Native.Nat.{ℕ, zero, suc, ◌+◌, ◌-◌, ◌*◌, ◌≤◌, ◌<◌}
 use mathlib.Core.Path.{◌≡◌, refl, sym, ap, ap₂, ◌∙◌, subst}
@@ -71,7 +71,7 @@ stuck_at at0 at1 (suc v) = at1
 abbrev pub LeftBit : List ℕ → List ℕ → ℕ → Fault → Type 0
 LeftBit at0 at1 b f = bit (get_or (stuck_at at0 at1 f.value) f.place 0) f.line ≡ b
 
--- a vector's score: what its walk counts, and the number that it catches of the stuck_at faults that are left
+-- a vector's score: what its walk counts, and the number that it catches of the stuck-at faults that are left
 pub record Scores (n : ℕ) (words at0 at1 : List ℕ) (x count : ℕ) : Type 0 where
   pub gs : List Gate
   pub circuit : Circuit n words gs

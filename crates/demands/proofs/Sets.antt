@@ -52,7 +52,7 @@ use Rattle.demands.proofs.Demand1OfC as refusing-in-c
 
 -- ---- what is told and what stands in the room
 
--- a set that catches every stuck_at fault stands at the front of the room, the rest of which is as it was, and its number is told
+-- a set that catches every stuck-at fault stands at the front of the room, the rest of which is as it was, and its number is told
 pub record Stands (n : ℕ) (gs : List Gate) (set room values exit : List ℕ) : Type 0 where
   pub values-are : values ≡ length set ∷ []
   pub in_room : length set ≤ length room
@@ -172,17 +172,17 @@ module _ (n : ℕ) (words room exit : List ℕ) where
 -- ---- the calls
 
 pub backward_set_means : Answers backward-set.Post (λ κs. told_made)
-    (λ κs (lines, (gates, (room, _))) values (_, (_, (Room-after, _))). MakesBackward lines gates.now room.now values Room-after.now)
+    (λ κs (lines, (gates, (room, _))) values (_, (_, (room-after, _))). MakesBackward lines gates.now room.now values room-after.now)
 backward_set_means = means refusing.backward_set_refuses _ (λ κs a r e p. p.0) (λ κs a r e p u. makes_backward _ _ _ _ u p.1)
 
 pub backward_set_in_c : AnswersInC c-backward-set.Post (λ κs r. r.number) (λ κs r. r.count ∷ [])
-    (λ κs (lines, (gates, (room, _))) values (_, (_, (Room-after, _))). MakesBackward lines gates.now room.now values Room-after.now)
+    (λ κs (lines, (gates, (room, _))) values (_, (_, (room-after, _))). MakesBackward lines gates.now room.now values room-after.now)
 backward_set_in_c = means_in_c 1 refusing-in-c.backward_set_refuses _ (λ κs a r e p. p.0) (λ κs a r e p u. makes_backward _ _ _ _ u p.1)
 
 pub compact_set_means : Answers compact-set.Post (λ κs. told_made)
-    (λ κs (lines, (gates, (room, _))) values (_, (_, (Room-after, _))). MakesCompact lines gates.now room.now values Room-after.now)
+    (λ κs (lines, (gates, (room, _))) values (_, (_, (room-after, _))). MakesCompact lines gates.now room.now values room-after.now)
 compact_set_means = means refusing.compact_set_refuses _ (λ κs a r e p. p.0) (λ κs a r e p u. makes_compact _ _ _ _ u p.1)
 
 pub compact_set_in_c : AnswersInC c-compact-set.Post (λ κs r. r.number) (λ κs r. r.count ∷ [])
-    (λ κs (lines, (gates, (room, _))) values (_, (_, (Room-after, _))). MakesCompact lines gates.now room.now values Room-after.now)
+    (λ κs (lines, (gates, (room, _))) values (_, (_, (room-after, _))). MakesCompact lines gates.now room.now values room-after.now)
 compact_set_in_c = means_in_c 1 refusing-in-c.compact_set_refuses _ (λ κs a r e p. p.0) (λ κs a r e p u. makes_compact _ _ _ _ u p.1)

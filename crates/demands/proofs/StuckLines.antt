@@ -108,7 +108,7 @@ module _ (n : ℕ) (gs : List Gate) (f : Fault) (is : StuckLine n gs f) where
         );
       }
 
--- ---- a set that catches every stuck_at fault
+-- ---- a set that catches every stuck-at fault
 
 module _ (n : ℕ) (gs : List Gate) (xs : List ℕ) (every : EveryCaught n gs 1 xs) where
   pub any_caught : (f : Fault) → StuckLine n gs f → CaughtBySome gs xs f

@@ -180,12 +180,12 @@ drop_records_one κs a b equal r s e f p q = (one told_dropped told_dropped-one 
 -- testsets
 pub backward_set-one : OneResultAndMemory backward-set.Post
     (λ κs (lines, (gates, (room, _))) (lines', (gates', (room', _))). (lines ≡ lines') × (gates.now ≡ gates'.now) × (room.now ≡ room'.now))
-    (λ κs (_, (_, (Room-after, _))) f. Room-after.now ≡ f.1.1.0.now)
+    (λ κs (_, (_, (room-after, _))) f. room-after.now ≡ f.1.1.0.now)
 backward_set-one κs a b equal r s e f p q = (one told_made told_made-one r s p.0 cc, same p.1 cc)
 
 pub compact_set-one : OneResultAndMemory compact-set.Post
     (λ κs (lines, (gates, (room, _))) (lines', (gates', (room', _))). (lines ≡ lines') × (gates.now ≡ gates'.now) × (room.now ≡ room'.now))
-    (λ κs (_, (_, (Room-after, _))) f. Room-after.now ≡ f.1.1.0.now)
+    (λ κs (_, (_, (room-after, _))) f. room-after.now ≡ f.1.1.0.now)
 compact_set-one κs a b equal r s e f p q = (one told_made told_made-one r s p.0 cc, same p.1 cc)
 
 -- real_export

@@ -55,7 +55,7 @@ MadeFor words call =
 
 -- what it leaves in the room
 abbrev room_after : Ended compact-set.Post → List ℕ
-room_after call = let (_, (_, (Room-after, _))) = call.exit in Room-after.now
+room_after call = let (_, (_, (room-after, _))) = call.exit in room-after.now
 
 room_promise : (words : List ℕ) (call : Ended compact-set.Post) → MadeFor words call → room_after call ≡ promised_room words
 room_promise words call asked = let p = call.promised.1 in cc
