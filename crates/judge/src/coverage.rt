@@ -15,7 +15,7 @@ use marking::marks;
 use refusals::{Checked, Refusal};
 
 // The faults that the vectors so far catch: for each class, place and value a word of the lines at which they catch one.
-#[derive(Drop)]
+#[derive(Clone, Copy)]
 pub struct Coverage {
     stuck_at_0: [u32; LEVELS],
     stuck_at_1: [u32; LEVELS],
@@ -25,7 +25,7 @@ pub struct Coverage {
 }
 
 // A coverage with one vector more, or the same beside the refusal; number 0 at place 0 is none.
-#[derive(Drop)]
+#[derive(Clone, Copy)]
 pub struct Covered {
     pub refusal: Refusal,
     pub coverage: Coverage,
