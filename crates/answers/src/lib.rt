@@ -3,20 +3,10 @@
 #![tactic(auto)]
 
 ghost use Rattle.std.specs.Prelude.{◌≡◌, [], ◌∷◌};
-ghost use Rattle.refusals.specs.Tables.Told.{answered, refused};
-ghost use Rattle.circuit.specs.Answers.{told_ran};
-ghost use Rattle.simulator.specs.Answers.{told_caught};
-ghost use Rattle.fault_test.specs.Answers.{told_test};
-ghost use Rattle.dropping.specs.Answers.{told_dropped};
-ghost use Rattle.testsets.specs.Answers.{told_made};
+ghost use Rattle.refusals.specs.Answers.{told_word, told_yes};
 ghost use Rattle.answers.specs.Fields.{fields};
 
-use circuit::Ran;
-use dropping::Dropped;
-use fault_test::Test;
 use refusals::Refusal;
-use simulator::Caught;
-use testsets::Made;
 
 pub mod jobs;
 pub mod texts;
@@ -58,103 +48,78 @@ pub struct Count {
     pub count: u32,
 }
 
-// A run.
-pub fn run_of(ran: Ran) -> Run
-    ensures { (result.number ∷ result.place ∷ result.state ∷ []) ≡ fields 1 (told_ran ran) }
-{
-    match ran {
-        Ran::State(state) => Run {
-            number: 0,
-            place: 0,
-            state,
-        },
-        Ran::Refused(refusal) => Run {
-            number: refusal.number,
-            place: refusal.place,
-            state: 0,
-        },
+impl From<Result<u32, Refusal>> for Run {
+    ghost from_gives = { λ answer run. (run.number ∷ run.place ∷ run.state ∷ []) ≡ fields 1 (told_word answer) };
+
+    fn from(answer: Result<u32, Refusal>) -> Run {
+        match answer {
+            Ok(state) => Run {
+                number: 0,
+                place: 0,
+                state,
+            },
+            Err(refusal) => Run {
+                number: refusal.number(),
+                place: refusal.place(),
+                state: 0,
+            },
+        }
     }
 }
 
-// A catch.
-pub fn catch_of(caught: Caught) -> Catch
-    ensures { (result.number ∷ result.place ∷ result.caught ∷ []) ≡ fields 1 (told_caught caught) }
-{
-    match caught {
-        Caught::Yes => Catch {
-            number: 0,
-            place: 0,
-            caught: 1,
-        },
-        Caught::No => Catch {
-            number: 0,
-            place: 0,
-            caught: 0,
-        },
-        Caught::Refused(refusal) => Catch {
-            number: refusal.number,
-            place: refusal.place,
-            caught: 0,
-        },
+impl From<Result<bool, Refusal>> for Catch {
+    ghost from_gives = { λ answer catch. (catch.number ∷ catch.place ∷ catch.caught ∷ []) ≡ fields 1 (told_yes answer) };
+
+    fn from(answer: Result<bool, Refusal>) -> Catch {
+        match answer {
+            Ok(caught) => Catch {
+                number: 0,
+                place: 0,
+                caught: caught as u32,
+            },
+            Err(refusal) => Catch {
+                number: refusal.number(),
+                place: refusal.place(),
+                caught: 0,
+            },
+        }
     }
 }
 
-// A test for a fault.
-pub fn vector_of(test: Test) -> Vector
-    ensures { (result.number ∷ result.place ∷ result.vector ∷ []) ≡ fields 1 (told_test test) }
-{
-    match test {
-        Test::Vector(vector) => Vector {
-            number: 0,
-            place: 0,
-            vector,
-        },
-        Test::Refused(refusal) => Vector {
-            number: refusal.number,
-            place: refusal.place,
-            vector: 0,
-        },
+impl From<Result<u32, Refusal>> for Vector {
+    ghost from_gives = { λ answer test. (test.number ∷ test.place ∷ test.vector ∷ []) ≡ fields 1 (told_word answer) };
+
+    fn from(answer: Result<u32, Refusal>) -> Vector {
+        match answer {
+            Ok(vector) => Vector {
+                number: 0,
+                place: 0,
+                vector,
+            },
+            Err(refusal) => Vector {
+                number: refusal.number(),
+                place: refusal.place(),
+                vector: 0,
+            },
+        }
     }
 }
 
-// So many.
-pub fn counted(count: u32) -> Count
-    ensures { (result.number ∷ result.place ∷ result.count ∷ []) ≡ fields 1 (answered (count ∷ [])) }
-{
-    Count {
-        number: 0,
-        place: 0,
-        count,
-    }
-}
+impl From<Result<u32, Refusal>> for Count {
+    ghost from_gives = { λ answer made. (made.number ∷ made.place ∷ made.count ∷ []) ≡ fields 1 (told_word answer) };
 
-// None, and why.
-pub fn none_counted(refusal: Refusal) -> Count
-    ensures { (result.number ∷ result.place ∷ result.count ∷ []) ≡ fields 1 (refused refusal.number refusal.place) }
-{
-    Count {
-        number: refusal.number,
-        place: refusal.place,
-        count: 0,
-    }
-}
-
-// A set that was made.
-pub fn made_of(made: Made) -> Count
-    ensures { (result.number ∷ result.place ∷ result.count ∷ []) ≡ fields 1 (told_made made) }
-{
-    match made {
-        Made::Count(count) => counted(count),
-        Made::Refused(refusal) => none_counted(refusal),
-    }
-}
-
-// A list that was dropped from.
-pub fn left_of(dropped: Dropped) -> Count
-    ensures { (result.number ∷ result.place ∷ result.count ∷ []) ≡ fields 1 (told_dropped dropped) }
-{
-    match dropped {
-        Dropped::Left(count) => counted(count),
-        Dropped::Refused(refusal) => none_counted(refusal),
+    fn from(answer: Result<u32, Refusal>) -> Count {
+        match answer {
+            Ok(count) => Count {
+                number: 0,
+                place: 0,
+                count,
+            },
+            Err(refusal) => Count {
+                number: refusal.number(),
+                place: refusal.place(),
+                count: 0,
+            },
+        }
     }
 }

@@ -1,12 +1,11 @@
-// What importing and exporting a text tell, as C structs.
+// What importing a text tells, as a C struct.
 ghost use Rattle.std.specs.Prelude.{◌≡◌, [], ◌∷◌};
-ghost use Rattle.real_export.specs.Answers.{told_exported};
-ghost use Rattle.real_import.specs.Answers.{told_imported};
+ghost use Rattle.refusals.specs.Answers.{told};
+ghost use Rattle.real_import.specs.Answers.{imported_values};
 ghost use Rattle.answers.specs.Fields.{fields};
 
-use crate::{Count, counted, none_counted};
-use real_export::Exported;
 use real_import::Imported;
+use refusals::Refusal;
 
 // A circuit's size.
 #[repr(C)]
@@ -18,32 +17,24 @@ pub struct Circuit {
     pub gates: u32,
 }
 
-// A circuit that was imported.
-pub fn circuit_of(imported: Imported) -> Circuit
-    ensures { (result.number ∷ result.place ∷ result.lines ∷ result.gates ∷ []) ≡ fields 2 (told_imported imported) }
-{
-    match imported {
-        Imported::Circuit { lines, gates } => Circuit {
-            number: 0,
-            place: 0,
-            lines,
-            gates,
-        },
-        Imported::Refused(refusal) => Circuit {
-            number: refusal.number,
-            place: refusal.place,
-            lines: 0,
-            gates: 0,
-        },
-    }
-}
+impl From<Result<Imported, Refusal>> for Circuit {
+    ghost from_gives = { λ answer circuit. (circuit.number ∷ circuit.place ∷ circuit.lines ∷ circuit.gates ∷ [])
+        ≡ fields 2 (told imported_values answer) };
 
-// A text that was exported.
-pub fn length_of(exported: Exported) -> Count
-    ensures { (result.number ∷ result.place ∷ result.count ∷ []) ≡ fields 1 (told_exported exported) }
-{
-    match exported {
-        Exported::Bytes(count) => counted(count),
-        Exported::Refused(refusal) => none_counted(refusal),
+    fn from(answer: Result<Imported, Refusal>) -> Circuit {
+        match answer {
+            Ok(imported) => Circuit {
+                number: 0,
+                place: 0,
+                lines: imported.lines,
+                gates: imported.gates,
+            },
+            Err(refusal) => Circuit {
+                number: refusal.number(),
+                place: refusal.place(),
+                lines: 0,
+                gates: 0,
+            },
+        }
     }
 }

@@ -1,10 +1,12 @@
 // Verdicts as C structs.
 ghost use Rattle.std.specs.Prelude.{◌≡◌, [], ◌∷◌};
-ghost use Rattle.judge.specs.Answers.{told_verdict};
+ghost use Rattle.refusals.specs.Answers.{told};
+ghost use Rattle.judge.specs.Answers.{verdict_values};
 ghost use Rattle.answers.specs.Fields.{fields};
 
 use faults::Fault;
 use judge::Verdict;
+use refusals::Refusal;
 
 // A verdict: `complete` is 1 or 0, and `first` the first uncaught fault.
 #[repr(C)]
@@ -18,51 +20,29 @@ pub struct Judgement {
     pub first: Fault,
 }
 
-// All fields 0.
-fn no_fault() -> Fault
-    ensures { (result.class ∷ result.place ∷ result.line ∷ result.value ∷ []) ≡ 0 ∷ 0 ∷ 0 ∷ 0 ∷ [] }
-{
-    Fault {
-        class: 0,
-        place: 0,
-        line: 0,
-        value: 0,
-    }
-}
+impl From<Result<Verdict, Refusal>> for Judgement {
+    ghost from_gives = { λ answer judgement. (judgement.number ∷ judgement.place ∷ judgement.caught ∷ judgement.total ∷ judgement.complete
+        ∷ judgement.first.class ∷ judgement.first.place ∷ judgement.first.line ∷ judgement.first.value ∷ [])
+        ≡ fields 7 (told verdict_values answer) };
 
-// A verdict.
-pub fn judgement_of(verdict: Verdict) -> Judgement
-    ensures { (result.number ∷ result.place ∷ result.caught ∷ result.total ∷ result.complete
-        ∷ result.first.class ∷ result.first.place ∷ result.first.line ∷ result.first.value ∷ []) ≡ fields 7 (told_verdict verdict) }
-{
-    match verdict {
-        Verdict::Complete { caught, total } => Judgement {
-            number: 0,
-            place: 0,
-            caught,
-            total,
-            complete: 1,
-            first: no_fault(),
-        },
-        Verdict::Left {
-            caught,
-            total,
-            first,
-        } => Judgement {
-            number: 0,
-            place: 0,
-            caught,
-            total,
-            complete: 0,
-            first,
-        },
-        Verdict::Refused(refusal) => Judgement {
-            number: refusal.number,
-            place: refusal.place,
-            caught: 0,
-            total: 0,
-            complete: 0,
-            first: no_fault(),
-        },
+    fn from(answer: Result<Verdict, Refusal>) -> Judgement {
+        match answer {
+            Ok(verdict) => Judgement {
+                number: 0,
+                place: 0,
+                caught: verdict.caught,
+                total: verdict.total,
+                complete: verdict.first.is_none() as u32,
+                first: verdict.first.unwrap_or_default(),
+            },
+            Err(refusal) => Judgement {
+                number: refusal.number(),
+                place: refusal.place(),
+                caught: 0,
+                total: 0,
+                complete: 0,
+                first: Fault::default(),
+            },
+        }
     }
 }

@@ -1,7 +1,7 @@
 -- Every border holds: each row by computing, with all definitions unfolded, the longest job by the law of jobs that are written and
 -- read, and the largest word digit by digit. The check names the table in which a row is wrong, and where that is not too much to
 -- print the row too, with its number, what came and what was expected. Assumes nothing.
-use mathlib.Core.Path.{refl}
+use Rattle.std.specs.Prelude.{refl}
 use Rattle.basics.specs.Lists.{up_from, keep, each, some}
 use Rattle.basics.specs.Sums.{sum_from}
 use Rattle.words.specs.Word.{bit, flip, force, all_on, all_ones, lines_on}

@@ -1,12 +1,7 @@
 -- Rows by computing: each is tested, and where every test passes every row is right. A test that fails ends the computing with the row's
 -- number and what came of it, so that a check shows them. Assumes nothing.
-use Prim.Native.Nat.{ℕ, suc}
-use mathlib.Core.Path.{◌≡◌, refl}
-use mathlib.Core.Bool.{Bool, true, false, ◌&&◌, false≢true}
-use mathlib.Core.List.{List, [], ◌∷◌}
-use native.Mathlib.Omega.{arith}
-use lib.Dec.{eqb}
-use borrow.Author.Tests.{eqb-true}
+use Rattle.std.proofs.Common.{◌≡◌, refl, ℕ, suc, Bool, true, false, ◌&&◌, eqb, List, [], ◌∷◌, arith, eqb-true}
+use Rattle.std.proofs.lemmas.Bool.{false≢true}
 use Rattle.basics.specs.Choice.{choice}
 use Rattle.basics.specs.Lists.{All}
 use Rattle.basics.proofs.Tests.{and_both}

@@ -1,18 +1,15 @@
 -- The longest job is taken. It is the image of a job that is written, and so it is read as that job, by the law that a job which is
 -- written is read again as it was: reading 20,480 bytes one by one would be long to compute.
 -- So is the largest word in decimal, which is written digit by digit, and the longest text, whose gates are all the same. Assumes nothing.
-use Prim.Native.Nat.{ℕ, zero, suc, ◌*◌, ◌/◌, ◌%◌, ◌≤◌}
-use mathlib.Core.Path.{◌≡◌, refl, sym, ap, subst, ◌∙◌}
-use mathlib.Core.List.{List, [], ◌∷◌, ◌++◌}
-use native.Mathlib.Omega.{arith}
-use lib.ListN.{length, take, replicate, length-append}
+use Rattle.std.specs.Prelude.{◌≡◌, refl, ℕ, zero, suc, ◌*◌, ◌/◌, ◌%◌, ◌≤◌, List, [], ◌∷◌, ◌++◌, length, take, replicate}
+use Rattle.std.proofs.Common.{sym, ap, subst, ◌∙◌, length-append, arith}
 use Rattle.basics.specs.Lists.{up_from, keep, each}
 use Rattle.words.specs.Word.{bit, all_ones, lines_on}
 use Rattle.refusals.specs.Tables.{first_of}
 use Rattle.refusals.specs.Tables.Told.{answered}
-use Rattle.refusals.specs.Checks.{fine}
+use Rattle.refusals.specs.Answers.{fine}
 use Rattle.refusals.specs.Places.{first_bad_from}
-use Rattle.refusals.proofs.Tables.{fine-all}
+use Rattle.refusals.proofs.Tables.{fine_all}
 use Rattle.circuit.specs.Gates.{gates_of}
 use Rattle.circuit.specs.Controls.{is_control}
 use Rattle.circuit.specs.Rules.{bad_lines, bad_counts, bad_gate, first_bad_gate, first_bad_vector}
@@ -44,8 +41,8 @@ unfolding image header row_bytes bytes_of gate_count each longest_job
 image-is = refl
 
 written : fine ≡ first_of (write_rows 1 1 words vectors 20508) fine
-unfolding write_rows content_rows bad_lines bad_classes bad_counts gate_count first_bad_gate first_bad_vector first_bad_from bad_gate is_control bit gates_of
-    image header row_bytes bytes_of each
+unfolding write_rows content_rows bad_lines bad_classes bad_counts gate_count first_bad_gate first_bad_vector first_bad_from bad_gate is_control
+    bit gates_of image header row_bytes bytes_of each
 written = refl
 
 holds : Holds longest_job 1 1 words vectors
@@ -59,7 +56,7 @@ passed = subst (λ bytes. fine ≡ first_of (read_rows bytes 3072 2048) fine) im
 pub longest_read : read_tells longest_job (replicate 3072 9) (replicate 2048 9) ≡ answered (1 ∷ 1 ∷ 1024 ∷ 2048 ∷ [])
 unfolding gate_count
 longest_read =
-    sym (fine-all (read_rows longest_job 3072 2048) _ passed)
+    sym (fine_all (read_rows longest_job 3072 2048) _ passed)
     ∙ (λ i. answered (holds.lines i ∷ holds.classes i ∷ holds.gates i ∷ holds.vectors i ∷ []))
 
 report_is : report_text longest_job ≡ job_text 1 1 words vectors

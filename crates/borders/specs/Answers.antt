@@ -1,86 +1,61 @@
 -- What each case of an answer tells, the fields of a C answer, and words of 32 lines.
-use Rattle.std.specs.Prelude.{List, [], ◌∷◌, length}
+use Rattle.std.specs.Prelude.{true, false, Some, None, Ok, Err, List, [], ◌∷◌, length, map}
 use Rattle.words.specs.Word.{bit, flip, force, all_ones, lines_on}
 use Rattle.words.specs.Inverse.{inverse}
 use Rattle.words.specs.WordOf.{lacking, lone_zero}
 use Rattle.refusals.specs.Tables.Told.{answered, refused}
-use Rattle.refusals.specs.Checks.{fine, found}
+use Rattle.refusals.specs.Answers.{told, told_word, told_yes, fine, found, number_of, place_of}
 use Rattle.refusals.specs.declared.Refusal.{Refusal}
-use Rattle.refusals.specs.declared.Checked.TheVariants as checked
-use Rattle.circuit.specs.Answers.{told_ran}
-use Rattle.circuit.specs.declared.Ran.TheVariants as ran
-use Rattle.simulator.specs.Answers.{told_output, told_caught}
-use Rattle.fault_test.specs.Answers.{told_test}
-use Rattle.simulator.specs.declared.Output.TheVariants as output
-use Rattle.simulator.specs.declared.Caught.TheVariants as caught
-use Rattle.fault_test.specs.declared.Test.TheVariants as test
-use Rattle.judge.specs.Answers.{told_verdict, told_beside}
+use Rattle.refusals.specs.declared.Refusal.TheVariants as refusal
 use Rattle.marking.specs.Firsts.{told_first}
-use Rattle.judge.specs.declared.Verdict.TheVariants as verdict
-use Rattle.marking.specs.declared.First.TheVariants as first
-use Rattle.dropping.specs.Answers.{told_dropped}
-use Rattle.dropping.specs.declared.Dropped.TheVariants as dropped
-use Rattle.testsets.specs.Answers.{told_made}
-use Rattle.testsets.specs.declared.Made.TheVariants as made
-use Rattle.job.specs.Answers.{told_read, told_written}
-use Rattle.job.specs.declared.Read.TheVariants as read
-use Rattle.job.specs.declared.Written.TheVariants as written
-use Rattle.report_text.specs.Answers.{told_reported}
-use Rattle.report_text.specs.declared.Reported.TheVariants as reported
-use Rattle.real_import.specs.Answers.{told_imported}
-use Rattle.real_import.specs.declared.Imported.TheVariants as imported
-use Rattle.real_export.specs.Answers.{told_exported}
-use Rattle.real_export.specs.declared.Exported.TheVariants as exported
+use Rattle.judge.specs.Answers.{verdict_values}
+use Rattle.judge.specs.Added.{told_added}
+use Rattle.judge.specs.Coverages.{empty_coverage}
+use Rattle.job.specs.Answers.{job_values}
+use Rattle.real_import.specs.Answers.{imported_values}
 use Rattle.answers.specs.Fields.{fields}
 use Rattle.borders.specs.Rows.{Row, fault}
 use Rattle.borders.specs.Rows.Row.{◌tells◌, ◌gives◌}
 
 -- rule 7 at place 2
 abbrev pub seven : Refusal
-seven = record { number = 7; place = 2 }
+seven = refusal.Gate 2
+
+-- the refusal of each rule, those that tell a place at 2 to 6
+abbrev pub each_rule : List Refusal
+each_rule =
+    refusal.ShortJob ∷ refusal.Form ∷ refusal.Lines ∷ refusal.Classes ∷ refusal.Counts ∷ refusal.Sizes ∷ seven ∷ refusal.Vector 3
+    ∷ refusal.Fault 4 ∷ refusal.Room ∷ refusal.ManyLines ∷ refusal.Level ∷ refusal.Entries ∷ refusal.Text 5 ∷ refusal.OtherGate 6 ∷ []
 
 unfoldable pub answer_table : List Row
 answer_table =
-    -- a state; an output; caught is 1 and not caught 0; a vector
-    told_ran (ran.State 5) tells answered (5 ∷ []) ∷
-    told_ran (ran.Refused seven) tells refused 7 2 ∷
-    told_output (output.Word 5) tells answered (5 ∷ []) ∷
-    told_output (output.Refused seven) tells refused 7 2 ∷
-    told_caught caught.Yes tells answered (1 ∷ []) ∷
-    told_caught caught.No tells answered (0 ∷ []) ∷
-    told_caught (caught.Refused seven) tells refused 7 2 ∷
-    told_test (test.Vector 5) tells answered (5 ∷ []) ∷
-    told_test (test.Refused seven) tells refused 7 2 ∷
+    -- a state, an output, a vector, how many records, vectors or bytes; caught is 1 and not caught 0
+    told_word (Ok 5) tells answered (5 ∷ []) ∷
+    told_word (Err seven) tells refused 7 2 ∷
+    told_yes (Ok true) tells answered (1 ∷ []) ∷
+    told_yes (Ok false) tells answered (0 ∷ []) ∷
+    told_yes (Err seven) tells refused 7 2 ∷
     -- a verdict: number caught, number in the class, then 1 and four zeros, or 0 and class, place, line, value of a fault
-    told_verdict (verdict.Complete 2 3) tells answered (2 ∷ 3 ∷ 1 ∷ 0 ∷ 0 ∷ 0 ∷ 0 ∷ []) ∷
-    told_verdict (verdict.Left 2 3 (fault 4 5 6 7)) tells answered (2 ∷ 3 ∷ 0 ∷ 4 ∷ 5 ∷ 6 ∷ 7 ∷ []) ∷
-    told_verdict (verdict.Refused seven) tells refused 7 2 ∷
-    told_first first.None gives (1 ∷ 0 ∷ 0 ∷ 0 ∷ 0 ∷ []) ∷
-    told_first (first.Uncaught (fault 4 5 6 7)) gives (0 ∷ 4 ∷ 5 ∷ 6 ∷ 7 ∷ []) ∷
-    -- beside a coverage, number 0 at place 0 is no refusal
-    told_beside (record { number = 0; place = 0 }) tells answered [] ∷
-    told_beside seven tells refused 7 2 ∷
-    told_beside (record { number = 3; place = 0 }) tells refused 3 0 ∷
-    told_beside (record { number = 0; place = 1 }) tells refused 0 1 ∷
-    found checked.Fine tells answered [] ∷
-    found (checked.Wrong seven) tells refused 7 2 ∷
+    told verdict_values (Ok (record { caught = 2; total = 3; first = None })) tells answered (2 ∷ 3 ∷ 1 ∷ 0 ∷ 0 ∷ 0 ∷ 0 ∷ []) ∷
+    told verdict_values (Ok (record { caught = 2; total = 3; first = Some (fault 4 5 6 7) })) tells answered (2 ∷ 3 ∷ 0 ∷ 4 ∷ 5 ∷ 6 ∷ 7 ∷ []) ∷
+    told verdict_values (Err seven) tells refused 7 2 ∷
+    told_first None gives (1 ∷ 0 ∷ 0 ∷ 0 ∷ 0 ∷ []) ∷
+    told_first (Some (fault 4 5 6 7)) gives (0 ∷ 4 ∷ 5 ∷ 6 ∷ 7 ∷ []) ∷
+    -- a vector added to a coverage, or refused beside it
+    told_added (Ok empty_coverage) tells answered [] ∷
+    told_added (Err (record { refusal = seven; coverage = empty_coverage })) tells refused 7 2 ∷
+    told_added (Err (record { refusal = refusal.Lines; coverage = empty_coverage })) tells refused 3 0 ∷
+    found {A = Unit {0}} (Ok tt) tells answered [] ∷
+    found {A = Unit {0}} (Err seven) tells refused 7 2 ∷
     fine tells answered [] ∷
-    -- the number of records left, of vectors made, of bytes written
-    told_dropped (dropped.Left 4) tells answered (4 ∷ []) ∷
-    told_dropped (dropped.Refused seven) tells refused 7 2 ∷
-    told_made (made.Count 4) tells answered (4 ∷ []) ∷
-    told_made (made.Refused seven) tells refused 7 2 ∷
-    told_read (read.Job 3 15 2 4) tells answered (3 ∷ 15 ∷ 2 ∷ 4 ∷ []) ∷
-    told_read (read.Refused seven) tells refused 7 2 ∷
-    told_written (written.Bytes 64) tells answered (64 ∷ []) ∷
-    told_written (written.Refused seven) tells refused 7 2 ∷
-    told_reported (reported.Bytes 48) tells answered (48 ∷ []) ∷
-    told_reported (reported.Refused seven) tells refused 7 2 ∷
-    -- the number of lines and of gates read, of bytes written
-    told_imported (imported.Circuit 3 2) tells answered (3 ∷ 2 ∷ []) ∷
-    told_imported (imported.Refused seven) tells refused 7 2 ∷
-    told_exported (exported.Bytes 77) tells answered (77 ∷ []) ∷
-    told_exported (exported.Refused seven) tells refused 7 2 ∷
+    -- lines, classes wanted, gates, vectors of a job; lines and gates of a text
+    told job_values (Ok (record { lines = 3; classes = 15; gates = 2; vectors = 4 })) tells answered (3 ∷ 15 ∷ 2 ∷ 4 ∷ []) ∷
+    told job_values (Err seven) tells refused 7 2 ∷
+    told imported_values (Ok (record { lines = 3; gates = 2 })) tells answered (3 ∷ 2 ∷ []) ∷
+    told imported_values (Err seven) tells refused 7 2 ∷
+    -- the number of each rule, and the place that it tells
+    map number_of each_rule gives (1 ∷ 2 ∷ 3 ∷ 4 ∷ 5 ∷ 6 ∷ 7 ∷ 8 ∷ 9 ∷ 10 ∷ 11 ∷ 12 ∷ 13 ∷ 14 ∷ 15 ∷ []) ∷
+    map place_of each_rule gives (0 ∷ 0 ∷ 0 ∷ 0 ∷ 0 ∷ 0 ∷ 2 ∷ 3 ∷ 4 ∷ 0 ∷ 0 ∷ 0 ∷ 0 ∷ 5 ∷ 6 ∷ []) ∷
     -- a C answer: number and place, 0 and 0 where the call answers, then the values, or as many zeros
     fields 1 (answered (5 ∷ [])) gives (0 ∷ 0 ∷ 5 ∷ []) ∷
     fields 1 (refused 7 2) gives (7 ∷ 2 ∷ 0 ∷ []) ∷

@@ -69,7 +69,7 @@ judge_table =
     judge_tells 32 [] [] 2 tells answered (0 ∷ 0 ∷ 1 ∷ 0 ∷ 0 ∷ 0 ∷ 0 ∷ []) ∷
     judge_tells 33 [] [] 2 tells refused 3 0 ∷
     -- an empty coverage: a word for each of 1,025 levels, twice, and for each of 1,024 gates, three times
-    (length empty_coverage.stuck_at_0 ∷ length empty_coverage.stuck_at_1 ∷ length empty_coverage.missing_gates
+    (length empty_coverage.stuck_at.at_0 ∷ length empty_coverage.stuck_at.at_1 ∷ length empty_coverage.missing_gates
     ∷ length empty_coverage.missing_controls ∷ length empty_coverage.extra_controls ∷ [])
     gives (1025 ∷ 1025 ∷ 1024 ∷ 1024 ∷ 1024 ∷ []) ∷
     count_tells empty_coverage 3 sample_words 1 tells answered (0 ∷ 16 ∷ 0 ∷ 1 ∷ 0 ∷ 0 ∷ 0 ∷ []) ∷
@@ -78,8 +78,8 @@ judge_table =
     count_tells empty_coverage 3 sample_words 4 tells answered (0 ∷ 1 ∷ 0 ∷ 4 ∷ 2 ∷ 2 ∷ 0 ∷ []) ∷
     count_tells empty_coverage 4 (0 ∷ 0 ∷ 2 ∷ []) 1 tells answered (0 ∷ 10 ∷ 0 ∷ 1 ∷ 0 ∷ 0 ∷ 0 ∷ []) ∷
     -- a coverage with one vector: the words of the lines at which it catches, at levels 0, 1, 2 or gates 1, 2; line 2 is no site of level 2
-    take 4 with3.stuck_at_0 gives (3 ∷ 7 ∷ 1 ∷ 0 ∷ []) ∷
-    take 4 with3.stuck_at_1 gives (4 ∷ 0 ∷ 2 ∷ 0 ∷ []) ∷
+    take 4 with3.stuck_at.at_0 gives (3 ∷ 7 ∷ 1 ∷ 0 ∷ []) ∷
+    take 4 with3.stuck_at.at_1 gives (4 ∷ 0 ∷ 2 ∷ 0 ∷ []) ∷
     take 3 with1.missing_gates gives (0 ∷ 1 ∷ 0 ∷ []) ∷
     take 3 with1.missing_controls gives (2 ∷ 0 ∷ 0 ∷ []) ∷
     take 3 with1.extra_controls gives (0 ∷ 4 ∷ 0 ∷ []) ∷
@@ -88,11 +88,11 @@ judge_table =
     count_tells with1 3 sample_words 3 tells answered (1 ∷ 3 ∷ 0 ∷ 3 ∷ 1 ∷ 0 ∷ 0 ∷ []) ∷
     count_tells with1 3 sample_words 4 tells answered (1 ∷ 1 ∷ 1 ∷ 0 ∷ 0 ∷ 0 ∷ 0 ∷ []) ∷
     -- at level 1 of a gate without controls its target alone
-    take 3 on4.stuck_at_0 gives (15 ∷ 0 ∷ 0 ∷ []) ∷
-    take 3 on4.stuck_at_1 gives (0 ∷ 4 ∷ 0 ∷ []) ∷
+    take 3 on4.stuck_at.at_0 gives (15 ∷ 0 ∷ 0 ∷ []) ∷
+    take 3 on4.stuck_at.at_1 gives (0 ∷ 4 ∷ 0 ∷ []) ∷
     count_tells on4 4 (0 ∷ 0 ∷ 2 ∷ []) 1 tells answered (5 ∷ 10 ∷ 0 ∷ 1 ∷ 0 ∷ 0 ∷ 1 ∷ []) ∷
-    take 3 (with_vector_gives empty_coverage 32 (0 ∷ 0 ∷ 31 ∷ []) 0).stuck_at_0 gives (0 ∷ 2147483648 ∷ 0 ∷ []) ∷
-    take 3 (with_vector_gives empty_coverage 32 (0 ∷ 0 ∷ 31 ∷ []) 0).stuck_at_1 gives (4294967295 ∷ 0 ∷ 0 ∷ []) ∷
+    take 3 (with_vector_gives empty_coverage 32 (0 ∷ 0 ∷ 31 ∷ []) 0).stuck_at.at_0 gives (0 ∷ 2147483648 ∷ 0 ∷ []) ∷
+    take 3 (with_vector_gives empty_coverage 32 (0 ∷ 0 ∷ 31 ∷ []) 0).stuck_at.at_1 gives (4294967295 ∷ 0 ∷ 0 ∷ []) ∷
     -- with a set's vectors in turn it ends as the judge of that set
     count_tells with035 3 sample_words 1 tells answered (16 ∷ 16 ∷ 1 ∷ 0 ∷ 0 ∷ 0 ∷ 0 ∷ []) ∷
     count_tells with035 3 sample_words 2 tells answered (2 ∷ 2 ∷ 1 ∷ 0 ∷ 0 ∷ 0 ∷ 0 ∷ []) ∷
@@ -103,8 +103,8 @@ judge_table =
     count_tells with035 1 [] 2 tells answered (0 ∷ 0 ∷ 1 ∷ 0 ∷ 0 ∷ 0 ∷ 0 ∷ []) ∷
     count_tells with3 3 (0 ∷ 0 ∷ 2 ∷ []) 1 tells answered (4 ∷ 8 ∷ 0 ∷ 1 ∷ 0 ∷ 0 ∷ 1 ∷ []) ∷
     count_tells with035 3 (0 ∷ 0 ∷ 2 ∷ []) 1 tells answered (8 ∷ 8 ∷ 1 ∷ 0 ∷ 0 ∷ 0 ∷ 0 ∷ []) ∷
-    take 4 (with_vector_gives with3 3 (0 ∷ 0 ∷ 2 ∷ []) 0).stuck_at_0 gives (3 ∷ 7 ∷ 1 ∷ 0 ∷ []) ∷
-    take 4 (with_vector_gives with3 3 (0 ∷ 0 ∷ 2 ∷ []) 0).stuck_at_1 gives (7 ∷ 0 ∷ 2 ∷ 0 ∷ []) ∷
+    take 4 (with_vector_gives with3 3 (0 ∷ 0 ∷ 2 ∷ []) 0).stuck_at.at_0 gives (3 ∷ 7 ∷ 1 ∷ 0 ∷ []) ∷
+    take 4 (with_vector_gives with3 3 (0 ∷ 0 ∷ 2 ∷ []) 0).stuck_at.at_1 gives (7 ∷ 0 ∷ 2 ∷ 0 ∷ []) ∷
     -- counting, rule 9
     count_tells with3 3 sample_words 0 tells refused 9 1 ∷
     count_tells with3 3 sample_words 5 tells refused 9 1 ∷
@@ -119,5 +119,5 @@ judge_table =
     with_vector_tells 32 [] 4294967295 tells answered [] ∷
     with_vector_tells 33 [] 0 tells refused 3 0 ∷
     with_vector_tells 3 (3 ∷ 0 ∷ 2 ∷ 1 ∷ 1 ∷ 1 ∷ []) 0 tells refused 7 2 ∷
-    take 4 (with_vector_gives with3 3 sample_words 8).stuck_at_0 gives (3 ∷ 7 ∷ 1 ∷ 0 ∷ []) ∷
-    take 4 (with_vector_gives with3 3 sample_words 4).stuck_at_0 gives (7 ∷ 7 ∷ 1 ∷ 0 ∷ []) ∷ []
+    take 4 (with_vector_gives with3 3 sample_words 8).stuck_at.at_0 gives (3 ∷ 7 ∷ 1 ∷ 0 ∷ []) ∷
+    take 4 (with_vector_gives with3 3 sample_words 4).stuck_at.at_0 gives (7 ∷ 7 ∷ 1 ∷ 0 ∷ []) ∷ []

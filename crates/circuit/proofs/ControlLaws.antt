@@ -15,7 +15,7 @@ use Rattle.words.proofs.Bits.{bit_le, bit_above}
 use Rattle.words.proofs.Lines.{bit-flip-same, bit-force-same, bit_force_other, force_other, force-lt, flip-flip, flip_differs}
 use Rattle.words.proofs.Inverse.{not_on}
 use Rattle.words.proofs.Masks.{all_on_iff, all_on-more, all_on_ones, all_on_but}
-use Rattle.circuit.specs.Controls.{is_control, less_control, more_control}
+use Rattle.circuit.specs.Controls.{is_control, with_control, less_control, more_control}
 use Rattle.circuit.specs.Runs.{fires, step}
 use Rattle.circuit.specs.Sound.{GateOk}
 use Rattle.circuit.specs.declared.Gate.{Gate}
@@ -133,3 +133,12 @@ unfolding fires less_control
 less_fires_but n g c ok e =
     all_on_but n (force g.controls c 0) c (force-lt n g.controls c 0 ok.controls_in (control_in n g c ok e))
     (bit-force-same g.controls c 0 (omega arith))
+
+-- a control less and a control more are one change of the mask, by a 0 and by a 1
+pub less_is : (c : ℕ) (g : Gate) → with_control c 0 g ≡ less_control c g
+unfolding with_control less_control
+less_is c g = refl
+
+pub more_is : (a : ℕ) (g : Gate) → with_control a 1 g ≡ more_control a g
+unfolding with_control more_control
+more_is a g = refl

@@ -1,7 +1,6 @@
 -- Laws of the rules of a circuit: which test breaks which rule, and what a circuit that breaks none is.
 use Prim.Native.Nat.{ℕ, ◌+◌, ◌-◌, ◌*◌, ◌/◌, ◌%◌, ◌^◌, ◌<◌, ◌≤◌}
-use mathlib.Core.Path.{◌≡◌, ap}
-use mathlib.Core.Logic.{◌≢◌}
+use mathlib.Core.Path.{◌≡◌, refl, ap, ◌∙◌}
 use mathlib.Core.Bool.{true, false, not}
 use mathlib.Core.List.{List, ◌++◌}
 use native.Mathlib.Omega.{arith}
@@ -12,10 +11,10 @@ use Rattle.basics.specs.Lists.{All}
 use Rattle.basics.proofs.Tests.{or_neither, or-false, or_left, or_right}
 use Rattle.basics.proofs.All.{all_map, all_at}
 use Rattle.refusals.specs.Tables.{first_of}
-use Rattle.refusals.specs.Tables.Told.{refused}
-use Rattle.refusals.specs.Checks.{fine}
+use Rattle.refusals.specs.Answers.{fine}
+use Rattle.refusals.specs.Places.{in_word}
 use Rattle.refusals.proofs.Tables.{Numbered, fine_row, fine-parts}
-use Rattle.refusals.proofs.Places.{bad-le, none_bad, none_left}
+use Rattle.refusals.proofs.Places.{rule_told, in_word_small, bad-le, none_bad, none_left}
 use Rattle.circuit.specs.Limits.{most_lines, most_gates, most_vectors}
 use Rattle.circuit.specs.Gates.{gates_of, no_gate, gate_at}
 use Rattle.circuit.specs.Controls.{is_control}
@@ -76,30 +75,27 @@ pub counts_good : (d m : ℕ) → d ≤ most_gates → m ≤ most_vectors → ba
 unfolding bad_counts
 counts_good d m h k = or-false (le-ltb most_gates d h) (le-ltb most_vectors m k)
 
--- which test of a circuit with a set of m vectors breaks which rule
-module _ (n : ℕ) (words : List ℕ) (m : ℕ) where
-  pub set_lines : bad_lines n ≡ true → refused 3 0 ≡ first_of (circuit_set_rows n words m) fine
-  unfolding circuit_set_rows
-  set_lines e = rw e
-
-  module _ (lines : bad_lines n ≡ false) where
-    pub set_counts : bad_counts (length words / 3) m ≡ true → refused 5 0 ≡ first_of (circuit_set_rows n words m) fine
-    unfolding circuit_set_rows
-    set_counts e = rw (lines, gates_count words, e)
-
-    module _ (counts : bad_counts (length words / 3) m ≡ false) (bad : ℕ) (is : bad ≡ first_bad_gate n words) where
-      pub set-gate : bad ≢ 0 → refused 7 bad ≡ first_of (circuit_set_rows n words m) fine
-      unfolding circuit_set_rows
-      set-gate d = rw (lines, gates_count words, counts, ← is, ne_eqb bad 0 d)
-
-      pub set-fine : bad ≡ 0 → fine ≡ first_of (circuit_set_rows n words m) fine
-      unfolding circuit_set_rows
-      set-fine e = rw (lines, gates_count words, counts, ← is, eq-eqb bad 0 e)
-
 -- the number of a bad gate is a gate's, or the next
 pub first_bad-le : (n : ℕ) (words : List ℕ) → first_bad_gate n words ≤ 1 + length words / 3
 unfolding first_bad_gate
 first_bad-le n words = omega (arith, gates_count words, bad-le (bad_gate n) (not (eqb (length words % 3) 0)) (gates_of words) 1)
+
+pub first_vector_le : (n : ℕ) (xs : List ℕ) → first_bad_vector n xs ≤ 1 + length xs
+unfolding first_bad_vector
+first_vector_le n xs = bad-le (leb (2 ^ n)) false xs 1
+
+-- within the limits the place of a bad gate or vector is one that a word holds
+pub gate_word : (n : ℕ) (words : List ℕ) → length words / 3 ≤ most_gates → in_word (first_bad_gate n words) ≡ first_bad_gate n words
+gate_word n words h = in_word_small (first_bad_gate n words) (omega (arith, first_bad-le n words))
+
+pub vector_word : (n : ℕ) (xs : List ℕ) → length xs ≤ most_vectors → in_word (first_bad_vector n xs) ≡ first_bad_vector n xs
+vector_word n xs h = in_word_small (first_bad_vector n xs) (omega (arith, first_vector_le n xs))
+
+-- the rows of a circuit with a set of m vectors, where those before the gates are kept
+module _ (n : ℕ) (words : List ℕ) (m : ℕ) (lines : bad_lines n ≡ false) (counts : bad_counts (length words / 3) m ≡ false) where
+  pub set_gates : rule_told 7 (first_bad_gate n words) ≡ first_of (circuit_set_rows n words m) fine
+  unfolding circuit_set_rows
+  set_gates = rw (lines, gates_count words, counts, gate_word n words (counts_right _ _ counts).0) refl
 
 -- a circuit that breaks no rule
 sound_gates : (n : ℕ) (words : List ℕ) → first_bad_gate n words ≡ 0 → AllOk n (gates_of words)
@@ -138,6 +134,13 @@ circuit_set_ok n words m e0 =
       vectors_fit = counts.1;
     }
 
+-- the rows one by one
+pub sound_rows : (n : ℕ) (words : List ℕ) (m : ℕ) → bad_lines n ≡ false → bad_counts (length words / 3) m ≡ false → fine ≡ rule_told 7 (first_bad_gate n words)
+    → Sound n words
+sound_rows n words m lines counts gates = (circuit_set_ok n words m (gates ∙ set_gates n words m lines counts)).circuit
+
+pub ruleset rows = (gates_count, lines_right, counts_right, gate_word, vector_word)
+
 pub sound : (n : ℕ) (words : List ℕ) → fine ≡ first_of (circuit_rows n words) fine → Sound n words
 unfolding circuit_rows
 sound n words e = (circuit_set_ok n words 0 e).circuit
@@ -160,10 +163,6 @@ vectors_ok n words xs e =
       set = circuit_set_ok n words (length xs) w.0;
       vectors = vectors_good n xs (eqb-true (first_bad_vector n xs) 0 (not-false (eqb (first_bad_vector n xs) 0) bad.0));
     }
-
-pub first_vector_le : (n : ℕ) (xs : List ℕ) → first_bad_vector n xs ≤ 1 + length xs
-unfolding first_bad_vector
-first_vector_le n xs = bad-le (leb (2 ^ n)) false xs 1
 
 -- gate g, from 1
 pub gate_at_ok : (n : ℕ) (gs : List Gate) (g : ℕ) → AllOk n gs → 0 < g → g ≤ length gs → GateOk n (gate_at gs g)

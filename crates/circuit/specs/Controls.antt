@@ -9,6 +9,10 @@ use Rattle.circuit.specs.declared.Gate.{Gate}
 unfoldable pub is_control : Gate → ℕ → Bool
 is_control g c = eqb (bit g.controls c) 1
 
+-- the gate whose line c is a control where v is 1, and none where it is 0
+unfoldable pub with_control : ℕ → ℕ → Gate → Gate
+with_control c v g = record { controls = force g.controls c v; spare = g.spare; target = g.target }
+
 -- the gate without control c
 unfoldable pub less_control : ℕ → Gate → Gate
 less_control c g = record { controls = force g.controls c 0; spare = g.spare; target = g.target }

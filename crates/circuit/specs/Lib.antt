@@ -4,5 +4,5 @@ pub mod Controls
 pub mod Runs
 pub mod Rules
 pub mod Sound
-pub mod Answers
 pub mod Promises
+pub mod Checked

@@ -1,5 +1,6 @@
 -- What a circuit that breaks no rule is: the one thing that the functions below the public calls ask for.
-use Rattle.std.specs.Prelude.{ℕ, ◌*◌, ◌^◌, ◌≤◌, ◌<◌, ◌≡◌, List, length, false}
+use Rattle.std.specs.Prelude.{ℕ, ◌*◌, ◌^◌, ◌≤◌, ◌<◌, ◌≡◌, List, [], ◌∷◌, length, false}
+use Rattle.std.specs.Coded.{Coded-set, coded_ℕ, coded_bool, ×_prop, Unit-prop, le_prop}
 use Rattle.basics.specs.Lists.{All}
 use Rattle.circuit.specs.Limits.{most_lines, most_gates}
 use Rattle.circuit.specs.Gates.{gates_of}
@@ -22,3 +23,25 @@ pub record Sound (n : ℕ) (words : List ℕ) : Type 0 where
   pub gates_fit : length (gates_of words) ≤ most_gates
   pub whole : length words ≡ 3 * length (gates_of words)
   pub gates_ok : AllOk n (gates_of words)
+
+-- ---- there is one proof of each of these at most, as a type that keeps one asks
+
+pub GateOk-prop : (n : ℕ) (g : Gate) → IsProp (GateOk n g)
+GateOk-prop n g a b = λ i. record {
+  controls_in = le_prop a.controls_in b.controls_in i;
+  target_in = le_prop a.target_in b.target_in i;
+  apart = Coded-set coded_bool (is_control g g.target) false a.apart b.apart i;
+}
+
+AllOk-prop : (n : ℕ) (gs : List Gate) → IsProp (AllOk n gs)
+AllOk-prop n [] = Unit-prop
+AllOk-prop n (g ∷ gs) = ×_prop (GateOk-prop n g) (AllOk-prop n gs)
+
+pub Sound-prop : (n : ℕ) (words : List ℕ) → IsProp (Sound n words)
+Sound-prop n words a b = λ i. record {
+  some_lines = le_prop a.some_lines b.some_lines i;
+  lines_fit = le_prop a.lines_fit b.lines_fit i;
+  gates_fit = le_prop a.gates_fit b.gates_fit i;
+  whole = Coded-set coded_ℕ (length words) (3 * length (gates_of words)) a.whole b.whole i;
+  gates_ok = AllOk-prop n (gates_of words) a.gates_ok b.gates_ok i;
+}

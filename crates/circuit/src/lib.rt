@@ -2,10 +2,10 @@
 #![tactic(auto)]
 
 ghost use Rattle.std.specs.Prelude.{◌≡◌};
-ghost use Rattle.circuit.specs.Answers.{told_ran};
+ghost use Rattle.refusals.specs.Answers.{told_word};
 ghost use Rattle.circuit.specs.Promises.{forward_tells, backward_tells};
 
-use refusals::{Checked, Refusal};
+use refusals::Refusal;
 
 pub mod checked;
 pub mod limits;
@@ -20,39 +20,20 @@ pub struct Gate {
     pub target: u32,
 }
 
-// What a run answers.
-#[derive(Clone, Copy)]
-pub enum Ran {
-    State(u32),
-    Refused(Refusal),
-}
-
 // From the input to a level.
-pub fn forward(lines: u32, gates: &[u32], level: u32, state: u32) -> Ran
-    ensures { told_ran result ≡ forward_tells lines gates.now level state }
+#[tactic(auto, using(refusals::proofs::Tables::calls, crate::proofs::RuleLaws::run_ok))]
+pub fn forward(lines: u32, gates: &[u32], level: u32, state: u32) -> Result<u32, Refusal>
+    ensures { told_word result ≡ forward_tells lines gates.now level state }
 {
-    match rules::check_run(lines, gates, level, state) {
-        Checked::Wrong(refusal) => Ran::Refused(refusal),
-        Checked::Fine => Ran::State(checked::run_forward(
-            lines,
-            gates,
-            numbers::level(level as usize),
-            state,
-        )),
-    }
+    let circuit = rules::check_run(lines, gates, level, state)?;
+    Ok(circuit.run_forward(numbers::level(level as usize), state))
 }
 
 // From a level to the input that leads there.
-pub fn backward(lines: u32, gates: &[u32], level: u32, state: u32) -> Ran
-    ensures { told_ran result ≡ backward_tells lines gates.now level state }
+#[tactic(auto, using(refusals::proofs::Tables::calls, crate::proofs::RuleLaws::run_ok))]
+pub fn backward(lines: u32, gates: &[u32], level: u32, state: u32) -> Result<u32, Refusal>
+    ensures { told_word result ≡ backward_tells lines gates.now level state }
 {
-    match rules::check_run(lines, gates, level, state) {
-        Checked::Wrong(refusal) => Ran::Refused(refusal),
-        Checked::Fine => Ran::State(checked::run_backward(
-            lines,
-            gates,
-            numbers::level(level as usize),
-            state,
-        )),
-    }
+    let circuit = rules::check_run(lines, gates, level, state)?;
+    Ok(circuit.run_backward(numbers::level(level as usize), state))
 }

@@ -1,13 +1,13 @@
 // Gate numbers run from 1 and level numbers from 0. Only the functions here make them, read them and turn one into the other.
-ghost use Rattle.std.specs.Prelude.{◌≡◌, ◌+◌, ◌<◌, eqb};
+ghost use Rattle.std.specs.Prelude.{◌≡◌, ◌+◌, ◌<◌};
 ghost use Rattle.circuit.specs.Limits.{most_gates};
 
 // The number of a gate, from 1.
-#[derive(Clone, Copy)]
+#[derive(Clone, Copy, PartialEq, Eq)]
 pub struct GateNumber(usize);
 
 // The number of a level, from 0: level 0 is the input, level i the state after gate i.
-#[derive(Clone, Copy)]
+#[derive(Clone, Copy, PartialEq, Eq)]
 pub struct LevelNumber(usize);
 
 // The level of a number.
@@ -74,13 +74,6 @@ pub fn gate_after(level: LevelNumber) -> GateNumber
     ensures { result.0 ≡ level.0 + 1 }
 {
     GateNumber(level.0 + 1)
-}
-
-// Whether two levels are one.
-pub fn same_level(a: LevelNumber, b: LevelNumber) -> bool
-    ensures { result ≡ eqb a.0 b.0 }
-{
-    a.0 == b.0
 }
 
 // The gate that a run back from a level takes when it has taken some: the last first.

@@ -1,14 +1,18 @@
 // The rules of a circuit, a state and a level: a check function for each table.
-ghost use Rattle.std.specs.Prelude.{◌≡◌, ◌++◌, ◌≤◌};
+ghost use Rattle.std.specs.Prelude.{◌≡◌, [], ◌∷◌, ◌++◌, not, ◌/◌, ◌≤◌, length, eqb, IfOk};
 ghost use Rattle.refusals.specs.Tables.{first_of};
-ghost use Rattle.refusals.specs.Checks.{fine, found};
-ghost use Rattle.circuit.specs.Limits.{most_lines};
+ghost use Rattle.refusals.specs.Tables.Row.{refuse◌at◌when◌};
+ghost use Rattle.refusals.specs.Answers.{fine, found};
+ghost use Rattle.refusals.specs.Places.{in_word};
+ghost use Rattle.circuit.specs.Limits.{most_lines, most_gates, most_vectors};
 ghost use Rattle.circuit.specs.Rules.{bad_lines, bad_counts, bad_gate, first_bad_gate, first_bad_vector};
 ghost use Rattle.circuit.specs.Rules.{circuit_set_rows, circuit_rows, set_rows, vector_rows, run_rows};
+ghost use Rattle.circuit.specs.Checked.{Has};
 
+use crate::checked::Circuit;
 use crate::limits::{MOST_GATES, MOST_LINES, MOST_VECTORS};
 use crate::{Gate, checked, numbers};
-use refusals::{Checked, Refusal};
+use refusals::{Refusal, in_word, refuse_when};
 use words;
 
 // Whether a circuit has no line, or more than it may have.
@@ -26,135 +30,105 @@ pub fn bad_counts(gates: usize, vectors: usize) -> bool
 }
 
 // Whether a gate is none of a circuit of so many lines.
+#[tactic(auto, unfolding(crate::specs::Rules::bad_gate))]
 pub fn bad_gate(lines: u32, gate: Gate) -> bool
     requires { lines ≤ most_lines }
     ensures { result ≡ bad_gate lines gate }
 {
-    let controls = gate.controls;
-    let spare = gate.spare;
-    let target = gate.target;
-    if !words::checked::below(controls, lines) {
-        return true;
-    }
-    if spare != 0 {
-        return true;
-    }
-    if lines <= target {
-        return true;
-    }
-    checked::is_control(gate, target)
+    !words::checked::below(gate.controls, lines)
+        || gate.spare != 0
+        || lines <= gate.target
+        || checked::is_control(gate, gate.target)
 }
 
-// The number of the first bad gate, and 0 where none is bad; words left over are one more bad gate.
-pub fn first_bad_gate(lines: u32, gates: &[u32]) -> usize
+// Rule 7: the first bad gate; words left over are one more.
+pub fn check_gates(lines: u32, gates: &[u32]) -> Result<(), Refusal>
     requires { lines ≤ most_lines }
-    ensures { result ≡ first_bad_gate lines gates.now }
+    ensures { found result ≡ first_of
+        (refuse 7 at in_word (first_bad_gate lines gates.now) when not (eqb (first_bad_gate lines gates.now) 0) ∷ []) fine }
 {
     let whole = gates.len() / 3;
-    let mut i = 0;
-    while i < whole {
+    for i in 0..whole {
         if bad_gate(lines, checked::gate_at(gates, numbers::gate(i + 1))) {
-            return i + 1;
+            return Err(Refusal::Gate(in_word(i + 1)));
         }
-        i += 1;
     }
-    if gates.len() % 3 == 0 { 0 } else { whole + 1 }
+    refuse_when(gates.len() % 3 != 0, Refusal::Gate(in_word(whole + 1)))
+}
+
+// Rule 8 of the vectors of a set: the first of 2 ^ n or more.
+pub fn check_vectors(lines: u32, vectors: &[u32]) -> Result<(), Refusal>
+    requires { lines ≤ most_lines }
+    ensures { found result ≡ first_of
+        (refuse 8 at in_word (first_bad_vector lines vectors.now) when not (eqb (first_bad_vector lines vectors.now) 0) ∷ []) fine }
+{
+    for i in 0..vectors.len() {
+        if !words::checked::below(vectors[i], lines) {
+            return Err(Refusal::Vector(in_word(i + 1)));
+        }
+    }
+    Ok(())
 }
 
 // The rules of a circuit with a set of so many vectors.
-pub fn check_circuit_set(lines: u32, gates: &[u32], vectors: usize) -> Checked
-    ensures { found result ≡ first_of (circuit_set_rows lines gates.now vectors) fine }
+#[tactic(auto, using(refusals::proofs::Tables::turns, crate::proofs::RuleLaws::rows), unfolding(crate::specs::Rules::circuit_set_rows))]
+pub fn check_circuit_set<'a>(
+    lines: u32,
+    gates: &'a [u32],
+    vectors: usize,
+) -> Result<Circuit<'a>, Refusal>
+    ensures rules { found result ≡ first_of (circuit_set_rows lines gates.now vectors) fine }
+    ensures circuit { IfOk result (Has lines gates.now) }
 {
-    if bad_lines(lines) {
-        return Checked::Wrong(Refusal {
-            number: 3,
-            place: 0,
-        });
-    }
-    if bad_counts(gates.len() / 3, vectors) {
-        return Checked::Wrong(Refusal {
-            number: 5,
-            place: 0,
-        });
-    }
-    let bad = first_bad_gate(lines, gates);
-    if bad != 0 {
-        return Checked::Wrong(Refusal {
-            number: 7,
-            place: bad as u32,
-        });
-    }
-    Checked::Fine
+    refuse_when(bad_lines(lines), Refusal::Lines)?;
+    refuse_when(bad_counts(gates.len() / 3, vectors), Refusal::Counts)?;
+    check_gates(lines, gates)?;
+    Ok(Circuit { lines, gates })
 }
 
 // The rules of a circuit.
-pub fn check_circuit(lines: u32, gates: &[u32]) -> Checked
-    ensures { found result ≡ first_of (circuit_rows lines gates.now) fine }
+#[tactic(auto, using(refusals::proofs::Tables::turns), unfolding(crate::specs::Rules::circuit_rows))]
+pub fn check_circuit<'a>(lines: u32, gates: &'a [u32]) -> Result<Circuit<'a>, Refusal>
+    ensures rules { found result ≡ first_of (circuit_rows lines gates.now) fine }
+    ensures circuit { IfOk result (Has lines gates.now) }
 {
     check_circuit_set(lines, gates, 0)
 }
 
-// The place of the first vector of 2 ^ n or more, and 0 where none is.
-pub fn first_bad_vector(lines: u32, vectors: &[u32]) -> usize
-    requires { lines ≤ most_lines }
-    ensures { result ≡ first_bad_vector lines vectors.now }
-{
-    let mut i = 0;
-    while i < vectors.len() {
-        if !words::checked::below(vectors[i], lines) {
-            return i + 1;
-        }
-        i += 1;
-    }
-    0
-}
-
 // The rules of a circuit and a set.
-pub fn check_set(lines: u32, gates: &[u32], vectors: &[u32]) -> Checked
-    ensures { found result ≡ first_of (set_rows lines gates.now vectors.now) fine }
+#[tactic(auto, using(refusals::proofs::Tables::turns, crate::proofs::RuleLaws::circuit_set_ok, crate::proofs::RuleLaws::vector_word), unfolding(crate::specs::Rules::set_rows))]
+pub fn check_set<'a>(lines: u32, gates: &'a [u32], vectors: &[u32]) -> Result<Circuit<'a>, Refusal>
+    ensures rules { found result ≡ first_of (set_rows lines gates.now vectors.now) fine }
+    ensures circuit { IfOk result (Has lines gates.now) }
 {
-    if let Checked::Wrong(refusal) = check_circuit_set(lines, gates, vectors.len()) {
-        return Checked::Wrong(refusal);
-    }
-    let bad = first_bad_vector(lines, vectors);
-    if bad != 0 {
-        return Checked::Wrong(Refusal {
-            number: 8,
-            place: bad as u32,
-        });
-    }
-    Checked::Fine
+    let circuit = check_circuit_set(lines, gates, vectors.len())?;
+    check_vectors(circuit.lines, vectors)?;
+    Ok(circuit)
 }
 
 // The rules of a circuit and one vector or state.
-pub fn check_vector(lines: u32, gates: &[u32], vector: u32) -> Checked
-    ensures { found result ≡ first_of (circuit_rows lines gates.now ++ vector_rows lines vector) fine }
+#[tactic(auto, using(refusals::proofs::Tables::turns), unfolding(crate::specs::Rules::vector_rows))]
+pub fn check_vector<'a>(lines: u32, gates: &'a [u32], vector: u32) -> Result<Circuit<'a>, Refusal>
+    ensures rules { found result ≡ first_of (circuit_rows lines gates.now ++ vector_rows lines vector) fine }
+    ensures circuit { IfOk result (Has lines gates.now) }
 {
-    if let Checked::Wrong(refusal) = check_circuit(lines, gates) {
-        return Checked::Wrong(refusal);
-    }
-    if words::checked::below(vector, lines) {
-        Checked::Fine
-    } else {
-        Checked::Wrong(Refusal {
-            number: 8,
-            place: 1,
-        })
-    }
+    let circuit = check_circuit(lines, gates)?;
+    refuse_when(!words::checked::below(vector, lines), Refusal::Vector(1))?;
+    Ok(circuit)
 }
 
 // The rules of a run.
-pub fn check_run(lines: u32, gates: &[u32], level: u32, state: u32) -> Checked
-    ensures { found result ≡ first_of (run_rows lines gates.now level state) fine }
+#[tactic(auto, using(refusals::proofs::Tables::turns), unfolding(crate::specs::Rules::run_rows, crate::specs::Rules::level_rows))]
+pub fn check_run<'a>(
+    lines: u32,
+    gates: &'a [u32],
+    level: u32,
+    state: u32,
+) -> Result<Circuit<'a>, Refusal>
+    ensures rules { found result ≡ first_of (run_rows lines gates.now level state) fine }
+    ensures circuit { IfOk result (Has lines gates.now) }
 {
-    if let Checked::Wrong(refusal) = check_vector(lines, gates, state) {
-        return Checked::Wrong(refusal);
-    }
-    if gates.len() / 3 < level as usize {
-        return Checked::Wrong(Refusal {
-            number: 12,
-            place: 0,
-        });
-    }
-    Checked::Fine
+    let circuit = check_vector(lines, gates, state)?;
+    refuse_when(circuit.depth() < level as usize, Refusal::Level)?;
+    Ok(circuit)
 }

@@ -6,7 +6,7 @@ use mathlib.Core.List.{List}
 use Prim.Native.Nat.{ℕ}
 use Rattle.refusals.specs.Tables.{Row, Told, first_of}
 use Rattle.refusals.specs.Tables.Told.{answered}
-use Rattle.refusals.specs.Checks.{fine}
+use Rattle.refusals.specs.Answers.{fine}
 use Rattle.refusals.proofs.Tables.{answered-fine}
 use Rattle.demands.proofs.FirstBroken.{answers_exactly}
 use Rattle.demands.proofs.Refusing.{Refuses}

@@ -4,13 +4,13 @@ use Prim.Native.Nat.{ℕ}
 use mathlib.Core.Path.{◌≡◌, refl, subst}
 use mathlib.Core.List.{List, [], ◌∷◌, Memᴰ}
 use lib.ListN.{take}
+use Rattle.refusals.specs.Answers.{told, told_word}
 use Rattle.basics.proofs.All.{all_map}
 use Rattle.circuit.specs.declared.Gate.{Gate}
 use Rattle.faults.specs.declared.Fault.{Fault}
-use Rattle.judge.specs.Answers.{told_verdict}
+use Rattle.judge.specs.Answers.{verdict_values}
 use Rattle.judge.proofs.judge.Reads as judge
 use Rattle.judge.proofs.covering.cover.Reads as cover
-use Rattle.testsets.specs.Answers.{told_made}
 use Rattle.testsets.proofs.backward_set.Reads as backward-set
 use Rattle.testsets.proofs.compact_set.Reads as compact-set
 use Rattle.nufsadeem.proofs.judging.nuf_judge.Reads as c-judge
@@ -56,7 +56,7 @@ complete_for_any : {n : ℕ} {words xs : List ℕ} {class : ℕ} {values : List 
 complete_for_any {n} {words} {xs} w number total rest one e =
     catches_any n words xs w.gs w.circuit (subst (λ k. EveryCaught n w.gs k xs) one ((complete_means w number total 1 rest e).0 refl))
 
-pub judge_any_line : Answers judge.Post (λ κs. told_verdict)
+pub judge_any_line : Answers judge.Post (λ κs. told verdict_values)
     (λ κs (lines, (gates, (vectors, (class, _)))) values e. CompleteForAny lines gates.now vectors.now class values)
 judge_any_line = record { as_said = λ call values t. complete_for_any (judge_means.as_said call values t) }
 
@@ -65,7 +65,7 @@ pub judge_any_line_in_c : AnswersInC c-judge.Post (λ κs r. r.number)
     (λ κs (lines, (gates, (vectors, (class, _)))) values e. CompleteForAny lines gates.now vectors.now class values)
 judge_any_line_in_c = record { as_said = λ call z. complete_for_any (judge_in_c.as_said call z) }
 
-pub cover_any_line : Answers cover.Post (λ κs. told_verdict)
+pub cover_any_line : Answers cover.Post (λ κs. told verdict_values)
     (λ κs (lines, (gates, (vectors, (class, _)))) values e. CompleteForAny lines gates.now vectors.now class values)
 cover_any_line = record { as_said = λ call values t. complete_for_any (cover_means.as_said call values t) }
 
@@ -84,7 +84,7 @@ front_for_any : {n : ℕ} {words set room values exit : List ℕ} {gs : List Gat
 front_for_any {n} {words} {set} {gs = gs} circuit stands k e =
     subst (AnyLineCaught n words) (in_front_lem stands k e) (catches_any n words set gs circuit stands.catches_all)
 
-pub backward_any_line : Answers backward-set.Post (λ κs. told_made)
+pub backward_any_line : Answers backward-set.Post (λ κs. told_word)
     (λ κs (lines, (gates, _)) values (_, (_, (room-after, _))). FrontForAny lines gates.now values room-after.now)
 backward_any_line = record { as_said = λ call values t. let w = backward_set_means.as_said call values t in front_for_any w.circuit w.stands }
 
@@ -92,7 +92,7 @@ pub backward_any_line_in_c : AnswersInC c-backward-set.Post (λ κs r. r.number)
     (λ κs (lines, (gates, _)) values (_, (_, (room-after, _))). FrontForAny lines gates.now values room-after.now)
 backward_any_line_in_c = record { as_said = λ call z. let w = backward_set_in_c.as_said call z in front_for_any w.circuit w.stands }
 
-pub compact_any_line : Answers compact-set.Post (λ κs. told_made)
+pub compact_any_line : Answers compact-set.Post (λ κs. told_word)
     (λ κs (lines, (gates, _)) values (_, (_, (room-after, _))). FrontForAny lines gates.now values room-after.now)
 compact_any_line = record { as_said = λ call values t. let w = compact_set_means.as_said call values t in front_for_any w.circuit w.stands }
 

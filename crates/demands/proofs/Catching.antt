@@ -8,7 +8,7 @@ use Rattle.basics.specs.Choice.{count}
 use Rattle.basics.specs.Lists.{All}
 use Rattle.basics.proofs.All.{all_map}
 use Rattle.refusals.specs.Tables.{first_of}
-use Rattle.refusals.specs.Checks.{fine}
+use Rattle.refusals.specs.Answers.{fine, told_word, told_yes}
 use Rattle.circuit.specs.Gates.{gates_of}
 use Rattle.circuit.specs.declared.Gate.{Gate}
 use Rattle.simulator.specs.Faulty.{faulty, caught}
@@ -16,7 +16,6 @@ use Rattle.simulator.specs.Rules.{catch_rows}
 use Rattle.faults.specs.Records.{faults_of}
 use Rattle.multiple_faults.specs.Multiple.{caught_together}
 use Rattle.multiple_faults.specs.Rules.{multiple_rows}
-use Rattle.simulator.specs.Answers.{told_output, told_caught}
 use Rattle.faults.specs.declared.Fault.{Fault}
 use Rattle.simulator.proofs.RuleLaws.{catch_ok}
 use Rattle.multiple_faults.proofs.RuleLaws.{multiple_ok}
@@ -122,11 +121,11 @@ module _ (n : ℕ) (words : List ℕ) (x : ℕ) where
 
 -- ---- the calls
 
-pub faulty_run_means : Answers faulty-run.Post (λ κs. told_output)
+pub faulty_run_means : Answers faulty-run.Post (λ κs. told_word)
     (λ κs (lines, (gates, (vector, (fault, _)))) values e. GivesFaulty lines gates.now vector fault values)
 faulty_run_means = means refusing.faulty_run_refuses _ (λ κs a r e p. p) (λ κs a r e p u. gives_faulty _ _ _ _ u)
 
-pub catches_means : Answers catches.Post (λ κs. told_caught)
+pub catches_means : Answers catches.Post (λ κs. told_yes)
     (λ κs (lines, (gates, (vector, (fault, _)))) values e. TellsCaught lines gates.now vector fault values)
 catches_means = means refusing.catches_refuses _ (λ κs a r e p. p) (λ κs a r e p u. tells-caught _ _ _ _ u)
 
@@ -134,7 +133,7 @@ pub catches_in_c : AnswersInC c-catches.Post (λ κs r. r.number) (λ κs r. r.c
     (λ κs (lines, (gates, (vector, (fault, _)))) values e. TellsCaught lines gates.now vector fault values)
 catches_in_c = means_in_c 1 refusing-in-c.catches_refuses _ (λ κs a r e p. p) (λ κs a r e p u. tells-caught _ _ _ _ u)
 
-pub catches_multiple_means : Answers catches-multiple.Post (λ κs. told_caught)
+pub catches_multiple_means : Answers catches-multiple.Post (λ κs. told_yes)
     (λ κs (lines, (gates, (vector, (entries, _)))) values e. TellsCaughtTogether lines gates.now vector entries.now values)
 catches_multiple_means = means refusing.catches_multiple_refuses _ (λ κs a r e p. p) (λ κs a r e p u. tells_together _ _ _ _ u)
 

@@ -7,7 +7,7 @@ use mathlib.Core.List.{List, [], ◌∷◌, ◌++◌}
 use lib.ListN.{length}
 use Rattle.refusals.specs.Tables.{Row, first_of}
 use Rattle.refusals.specs.Tables.Told.{answered}
-use Rattle.refusals.specs.Checks.{fine}
+use Rattle.refusals.specs.Answers.{fine, told}
 use Rattle.refusals.proofs.Tables.{after-fine, answered-fine}
 use Rattle.circuit.specs.Gates.{gates_of}
 use Rattle.circuit.specs.Rules.{circuit_rows, vector_rows}
@@ -18,7 +18,8 @@ use Rattle.faults.specs.Classes.{class_faults}
 use Rattle.judge.specs.Judging.{caught_by_some, verdict}
 use Rattle.judge.specs.Coverages.{empty_coverage, with_vector, with_all, is_marked}
 use Rattle.judge.specs.Rules.{count_rows}
-use Rattle.judge.specs.Answers.{told_verdict, told_beside}
+use Rattle.judge.specs.Answers.{verdict_values}
+use Rattle.judge.specs.Added.{told_added, handed_back}
 use Rattle.judge.specs.declared.coverage.Coverage.{Coverage}
 use Rattle.judge.proofs.RuleLaws.{count_ok}
 use Rattle.judge.proofs.SetLaws.{judge_is_coverage}
@@ -53,9 +54,9 @@ empty_means call =
     )
 
 -- a vector that is not refused is added
-pub with_vector_means : (call : Ended coverage-with-vector.Post) → told_beside call.result.refusal ≡ fine
+pub with_vector_means : (call : Ended coverage-with-vector.Post) → told_added call.result ≡ fine
     → let (coverage, (lines, (gates, (vector, _)))) = call.inputs in
-    Adds lines gates.now vector coverage call.result.coverage
+    Adds lines gates.now vector coverage (handed_back call.result)
 with_vector_means call told =
     let (coverage, (n, (gates, (x, _)))) = call.inputs in
     let words : List ℕ = gates.now in
@@ -64,13 +65,13 @@ with_vector_means call told =
     (after-fine (circuit_rows n words ++ vector_rows n x) _ _ unbroken ∙ sym call.promised.1)
     (adds n words x coverage (vector_ok n words x unbroken).circuit)
 
-pub count_means : Answers coverage-count.Post (λ κs. told_verdict)
+pub count_means : Answers coverage-count.Post (λ κs. told verdict_values)
     (λ κs (coverage, (lines, (gates, (class, _)))) values e. Counts lines gates.now coverage class values)
 unfolding verdict
 count_means = means refusing.coverage_count_refuses _ (λ κs a r e p. p) (λ κs a r e p u. counts _ _ _ _ (count_ok _ _ _ u).circuit)
 
 -- of the stuck-at faults it tells two for each site
-pub count_by_sites : Answers coverage-count.Post (λ κs. told_verdict)
+pub count_by_sites : Answers coverage-count.Post (λ κs. told verdict_values)
     (λ κs (coverage, (lines, (gates, (class, _)))) values e. (number total : ℕ) (rest : List ℕ) → class ≡ 1 → values ≡ number ∷ total ∷ rest
     → (gs : List Gate) × Circuit lines gates.now gs × (total ≡ 2 * site_total lines gs))
 count_by_sites = record {
@@ -101,7 +102,7 @@ module _ (call : Ended coverage-with-vector.Post) where
 pub data Covers (n : ℕ) (words : List ℕ) : List ℕ → Coverage → Type 0 where
   begun : (call : Ended coverage-empty.Post) → Covers n words [] call.result
   given : {xs : List ℕ} (call : Ended coverage-with-vector.Post) → Covers n words xs (so_far call) → lines call ≡ n → gates call ≡ words
-      → told_beside call.result.refusal ≡ fine → Covers n words (xs ++ (vector call ∷ [])) call.result.coverage
+      → told_added call.result ≡ fine → Covers n words (xs ++ (vector call ∷ [])) (handed_back call.result)
 
 with_all_last : (c : Coverage) (n : ℕ) (gs : List Gate) (xs : List ℕ) (x : ℕ)
     → with_all c n gs (xs ++ (x ∷ [])) ≡ with_vector (with_all c n gs xs) n gs x
@@ -123,7 +124,7 @@ covers_all n words xs c (given {xs = ys} call before same_lines same_gates told)
 -- it ends with the verdict of the judge of that set
 pub covers_judges : (n : ℕ) (words xs : List ℕ) (call : Ended coverage-count.Post)
     → let (coverage, (lines, (gates, (class, _)))) = call.inputs in
-    Covers n words xs coverage → lines ≡ n → gates.now ≡ words → (values : List ℕ) → told_verdict call.result ≡ answered values
+    Covers n words xs coverage → lines ≡ n → gates.now ≡ words → (values : List ℕ) → told verdict_values call.result ≡ answered values
     → Judges n words xs class values
 unfolding verdict
 covers_judges n words xs call covers lines gates values told =

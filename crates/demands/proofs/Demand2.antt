@@ -8,20 +8,19 @@ use mathlib.Core.Logic.{◌↔◌, ◌⊎◌}
 use mathlib.Core.List.{List, [], ◌∷◌}
 use native.Mathlib.Omega.{arith}
 use lib.ListN.{length}
+use Rattle.refusals.specs.Answers.{told, told_word, told_yes}
 use Rattle.basics.proofs.Tests.{by_equal}
 use Rattle.words.specs.Word.{bit}
 use Rattle.words.proofs.Bits.{word_ext_all}
 use Rattle.refusals.specs.Tables.{Told}
 use Rattle.refusals.specs.Tables.Told.{answered}
-use Rattle.circuit.specs.Answers.{told_ran}
 use Rattle.circuit.specs.declared.Gate.{Gate}
 use Rattle.circuit.proofs.forward.Reads as forward
 use Rattle.circuit.proofs.backward.Reads as backward
-use Rattle.simulator.specs.Answers.{told_caught}
 use Rattle.faults.specs.declared.Fault.{Fault}
 use Rattle.simulator.proofs.catches.Reads as catches
 use Rattle.multiple_faults.proofs.catches_multiple.Reads as catches-multiple
-use Rattle.judge.specs.Answers.{told_verdict}
+use Rattle.judge.specs.Answers.{verdict_values}
 use Rattle.judge.proofs.judge.Reads as judge
 use Rattle.judge.proofs.covering.cover.Reads as cover
 use Rattle.answers.specs.declared.Run.{Run}
@@ -72,7 +71,7 @@ module _ (g : Gate) (s t : ℕ) (made : Makes g s t) where
 
 pub level_0_is_input : (call : Ended forward.Post)
     → let (_, (_, (level, (input, _)))) = call.inputs in
-    level ≡ 0 → (s : ℕ) → told_ran call.result ≡ answered (s ∷ []) → s ≡ input
+    level ≡ 0 → (s : ℕ) → told_word call.result ≡ answered (s ∷ []) → s ≡ input
 level_0_is_input call zero s t =
     let (lines, (gates, (_, (input, _)))) = call.inputs in
     level_none (subst (λ level. RunsForward lines gates.now level input (s ∷ [])) zero (forward_means.as_said call (s ∷ []) t))
@@ -82,7 +81,7 @@ pub gate_makes_level : (low high : Ended forward.Post)
     → let (lines, (gates, (level, (input, _)))) = low.inputs in
     let (lines', (gates', (level', (input', _)))) = high.inputs in
     (lines ≡ lines') × (gates.now ≡ gates'.now) × (suc level ≡ level') × (input ≡ input')
-    → (s t : ℕ) → told_ran low.result ≡ answered (s ∷ []) → told_ran high.result ≡ answered (t ∷ [])
+    → (s t : ℕ) → told_word low.result ≡ answered (s ∷ []) → told_word high.result ≡ answered (t ∷ [])
     → (gs : List Gate) × Circuit lines gates.now gs × (suc level ≤ length gs) × Makes (gate gs (suc level)) s t
 gate_makes_level low high same s t e f =
     level_more (forward_means.as_said low (s ∷ []) e)
@@ -114,21 +113,21 @@ pub backward-after-forward : (first : Ended forward.Post) (second : Ended backwa
     → let (lines, (gates, (level, (input, _)))) = first.inputs in
     let (lines', (gates', (level', (state, _)))) = second.inputs in
     (lines ≡ lines') × (gates.now ≡ gates'.now) × (level ≡ level')
-    → told_ran first.result ≡ answered (state ∷ []) → told_ran second.result ≡ answered (input ∷ [])
+    → told_word first.result ≡ answered (state ∷ []) → told_word second.result ≡ answered (input ∷ [])
 backward-after-forward first second same told =
     let (lines, (gates, (level, (input, _)))) = first.inputs in
     let q = second.promised in
-    back_again lines gates.now level input _ (told_ran first.result) (told_ran second.result) first.promised told cc
+    back_again lines gates.now level input _ (told_word first.result) (told_word second.result) first.promised told cc
 
 pub forward-after-backward : (first : Ended backward.Post) (second : Ended forward.Post)
     → let (lines, (gates, (level, (state, _)))) = first.inputs in
     let (lines', (gates', (level', (input, _)))) = second.inputs in
     (lines ≡ lines') × (gates.now ≡ gates'.now) × (level ≡ level')
-    → told_ran first.result ≡ answered (input ∷ []) → told_ran second.result ≡ answered (state ∷ [])
+    → told_word first.result ≡ answered (input ∷ []) → told_word second.result ≡ answered (state ∷ [])
 forward-after-backward first second same told =
     let (lines, (gates, (level, (state, _)))) = first.inputs in
     let q = second.promised in
-    forth_again lines gates.now level state _ (told_ran first.result) (told_ran second.result) first.promised told cc
+    forth_again lines gates.now level state _ (told_word first.result) (told_word second.result) first.promised told cc
 
 -- the same in C: a number that is 0, and the state
 abbrev struct_tells : Run → Told
@@ -186,7 +185,7 @@ caught_exactly w = record {
   by_condition = conditions w;
 }
 
-pub catches_exactly : Answers catches.Post (λ κs. told_caught)
+pub catches_exactly : Answers catches.Post (λ κs. told_yes)
     (λ κs (lines, (gates, (vector, (fault, _)))) values e. CaughtExactly lines gates.now vector fault values)
 catches_exactly = record { as_said = λ call values t. caught_exactly (catches_means.as_said call values t) }
 
@@ -216,7 +215,7 @@ together_exactly w = record {
   by_output = told_together w;
 }
 
-pub catches_multiple_exactly : Answers catches-multiple.Post (λ κs. told_caught)
+pub catches_multiple_exactly : Answers catches-multiple.Post (λ κs. told_yes)
     (λ κs (lines, (gates, (vector, (entries, _)))) values e. TogetherExactly lines gates.now vector entries.now values)
 catches_multiple_exactly = record { as_said = λ call values t. together_exactly (catches_multiple_means.as_said call values t) }
 
@@ -252,7 +251,7 @@ complete_exactly w = record {
   by_sites = total_means w;
 }
 
-pub judge_exactly : Answers judge.Post (λ κs. told_verdict)
+pub judge_exactly : Answers judge.Post (λ κs. told verdict_values)
     (λ κs (lines, (gates, (vectors, (class, _)))) values e. CompleteExactly lines gates.now vectors.now class values)
 judge_exactly = record { as_said = λ call values t. complete_exactly (judge_means.as_said call values t) }
 
@@ -262,7 +261,7 @@ pub judge_exactly_in_c : AnswersInC c-judge.Post (λ κs r. r.number)
 judge_exactly_in_c = record { as_said = λ call z. complete_exactly (judge_in_c.as_said call z) }
 
 -- the same by way of a coverage
-pub cover_exactly : Answers cover.Post (λ κs. told_verdict)
+pub cover_exactly : Answers cover.Post (λ κs. told verdict_values)
     (λ κs (lines, (gates, (vectors, (class, _)))) values e. CompleteExactly lines gates.now vectors.now class values)
 cover_exactly = record { as_said = λ call values t. complete_exactly (cover_means.as_said call values t) }
 

@@ -7,16 +7,14 @@ use mathlib.Core.List.{List, [], ◌∷◌, Memᴰ}
 use lib.ListN.{take}
 use Rattle.refusals.specs.Tables.{first_of}
 use Rattle.refusals.specs.Tables.Told.{answered}
-use Rattle.refusals.specs.Checks.{fine}
+use Rattle.refusals.specs.Answers.{fine, told_word, told_yes}
 use Rattle.refusals.proofs.Tables.{answered-fine}
 use Rattle.circuit.specs.declared.Gate.{Gate}
 use Rattle.simulator.specs.Rules.{catch_rows}
 use Rattle.multiple_faults.specs.Rules.{multiple_rows}
-use Rattle.simulator.specs.Answers.{told_caught}
 use Rattle.faults.specs.declared.Fault.{Fault}
 use Rattle.simulator.proofs.catches.Reads as catches
 use Rattle.multiple_faults.proofs.catches_multiple.Reads as catches-multiple
-use Rattle.testsets.specs.Answers.{told_made}
 use Rattle.testsets.proofs.compact_set.Reads as compact-set
 use Rattle.demands.proofs.Machine.{Circuit, CaughtTogether, site_total, Multiple}
 use Rattle.demands.proofs.FaultLists.{Class, Picks}
@@ -61,7 +59,7 @@ made_so n words old left k is = (
 
 -- ---- the set as the contract of `compact_set` allows it: k vectors at the front of the room
 
-module _ (made : Ended compact-set.Post) (k : ℕ) (told : told_made made.result ≡ answered (k ∷ [])) where
+module _ (made : Ended compact-set.Post) (k : ℕ) (told : told_word made.result ≡ answered (k ∷ [])) where
   abbrev n : ℕ
   n = let (lines, _) = made.inputs in lines
 
@@ -97,28 +95,28 @@ module _ (made : Ended compact-set.Post) (k : ℕ) (told : told_made made.result
   -- with some vector of the set
   pub every_single : (asked : Ended catches.Post)
       → let (lines, (gates, (_, (fault, _)))) = asked.inputs in
-      Lent n words lines gates.now → fault.class ≡ 1 → (values : List ℕ) → told_caught asked.result ≡ answered values
+      Lent n words lines gates.now → fault.class ≡ 1 → (values : List ℕ) → told_yes asked.result ≡ answered values
       → (v : ℕ) × Memᴰ v written
       × ((call : Ended catches.Post)
       → let (lines', (gates', (vector, (fault', _)))) = call.inputs in
-      Lent n words lines' gates'.now → vector ≡ v → fault' ≡ fault → told_caught call.result ≡ answered (1 ∷ []))
+      Lent n words lines' gates'.now → vector ≡ v → fault' ≡ fault → told_yes call.result ≡ answered (1 ∷ []))
   every_single asked same class values taken =
       let (lines, (gates, (x, (f, _)))) = asked.inputs in
       let passed = (answered-fine (catch_rows lines gates.now x f) values _ (sym taken ∙ asked.promised)).1 in
       let w = compact_single _ _ _ _ k is x f (coe 0 1 (i. fine ≡ first_of (catch_rows (same.0 i) (same.1 i) x f) fine) passed) class in
-      (w.0, w.1, λ call lent vector fault. w.2 (told_caught call.result) (let p = call.promised in cc))
+      (w.0, w.1, λ call lent vector fault. w.2 (told_yes call.result) (let p = call.promised in cc))
 
   -- and every multiple one that `catches_multiple` takes
   pub every_multiple : (asked : Ended catches-multiple.Post)
       → let (lines, (gates, (_, (entries, _)))) = asked.inputs in
-      Lent n words lines gates.now → (values : List ℕ) → told_caught asked.result ≡ answered values
+      Lent n words lines gates.now → (values : List ℕ) → told_yes asked.result ≡ answered values
       → (v : ℕ) × Memᴰ v written
       × ((call : Ended catches-multiple.Post)
       → let (lines', (gates', (vector, (entries', _)))) = call.inputs in
-      Lent n words lines' gates'.now → vector ≡ v → entries'.now ≡ entries.now → told_caught call.result ≡ answered (1 ∷ []))
+      Lent n words lines' gates'.now → vector ≡ v → entries'.now ≡ entries.now → told_yes call.result ≡ answered (1 ∷ []))
   every_multiple asked same values taken =
       let (lines, (gates, (x, (entries, _)))) = asked.inputs in
       let list : List ℕ = entries.now in
       let passed = (answered-fine (multiple_rows lines gates.now x list) values _ (sym taken ∙ asked.promised)).1 in
       let w = compact_multiple _ _ _ _ k is x list (coe 0 1 (i. fine ≡ first_of (multiple_rows (same.0 i) (same.1 i) x list) fine) passed) in
-      (w.0, w.1, λ call lent vector entries. w.2 (told_caught call.result) (let p = call.promised in cc))
+      (w.0, w.1, λ call lent vector entries. w.2 (told_yes call.result) (let p = call.promised in cc))

@@ -5,7 +5,7 @@ use mathlib.Core.Path.{◌≡◌, refl, sym, ◌∙◌}
 use mathlib.Core.List.{List, [], ◌∷◌, Memᴰ}
 use lib.ListN.{take}
 use Rattle.refusals.specs.Tables.{Told, first_of}
-use Rattle.refusals.specs.Checks.{fine}
+use Rattle.refusals.specs.Answers.{fine}
 use Rattle.refusals.proofs.Tables.{answered-fine}
 use Rattle.simulator.specs.Rules.{catch_rows}
 use Rattle.multiple_faults.specs.Rules.{multiple_rows}

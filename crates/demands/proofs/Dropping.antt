@@ -8,7 +8,7 @@ use lib.ListN.{length, replicate}
 use Rattle.basics.specs.Lists.{All}
 use Rattle.basics.proofs.All.{all_map}
 use Rattle.refusals.specs.Tables.{first_of, after}
-use Rattle.refusals.specs.Checks.{fine}
+use Rattle.refusals.specs.Answers.{fine, told_word}
 use Rattle.refusals.specs.Places.{in_word}
 use Rattle.refusals.proofs.Tables.{after-fine}
 use Rattle.circuit.specs.Gates.{gates_of}
@@ -20,7 +20,6 @@ use Rattle.faults.specs.declared.Fault.{Fault}
 use Rattle.dropping.specs.Dropping.{uncaught, dropped, words_of}
 use Rattle.dropping.specs.Records.{AllFaults}
 use Rattle.dropping.specs.Rules.{drop_rows, drop_records_rows}
-use Rattle.dropping.specs.Answers.{told_dropped}
 use Rattle.dropping.proofs.RuleLaws.{drop_ok, drop_records_ok}
 use Rattle.dropping.proofs.drop.Reads as drop
 use Rattle.dropping.proofs.drop_records.Reads as drop-records
@@ -108,15 +107,15 @@ drops_plain n words x list exit unbroken made =
     let fs : List Fault = faults_of list in
     record {
       faults = fs;
-      lent = records_faults list ok.records.whole;
+      lent = records_faults list ok.whole;
       faults-after = dropped (gates_of words) x fs;
       at_exit = made ∙ sym (after-fine (drop_rows n words x list) _ _ unbroken) ∙ numbers_records (dropped (gates_of words) x fs);
-      drops = drops n words x fs ok.vector.circuit ok.records.faults;
+      drops = drops n words x fs ok.vector.circuit ok.faults;
     }
 
 -- ---- the calls
 
-pub drop_means : Answers drop.Post (λ κs. told_dropped)
+pub drop_means : Answers drop.Post (λ κs. told_word)
     (λ κs (lines, (gates, (vector, (list, _)))) values (_, (_, (_, (list-after, _)))).
     DropsPlain lines gates.now vector list.now values list-after.now)
 drop_means = means refusing.drop_refuses _ (λ κs a r e p. p.0) (λ κs a r e p u. drops_plain _ _ _ _ _ u p.1)
@@ -126,7 +125,7 @@ pub drop_in_c : AnswersInC c-drop.Post (λ κs r. r.number) (λ κs r. r.count �
     DropsPlain lines gates.now vector list.now values list-after.now)
 drop_in_c = means_in_c 1 refusing-in-c.drop_refuses _ (λ κs a r e p. p.0) (λ κs a r e p u. drops_plain _ _ _ _ _ u p.1)
 
-pub drop_records_means : Answers drop-records.Post (λ κs. told_dropped)
+pub drop_records_means : Answers drop-records.Post (λ κs. told_word)
     (λ κs (lines, (gates, (vector, (list, _)))) values (_, (_, (_, (list-after, _)))).
     Drops lines gates.now vector list.now values list-after.now)
 drop_records_means = means refusing.drop_records_refuses _ (λ κs a r e p. p.0) (λ κs a r e p u. drops_records _ _ _ _ _ u p.1)

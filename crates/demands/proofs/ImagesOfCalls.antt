@@ -1,8 +1,9 @@
 -- The calls that write and read jobs, of the library and of C, are a writer and a reader each, so that the theorems on images hold of them.
 use Prim.Native.Nat.{ℕ}
 use mathlib.Core.List.{List, [], ◌∷◌}
+use Rattle.refusals.specs.Answers.{told, told_word}
 use Rattle.refusals.specs.Tables.{Told}
-use Rattle.job.specs.Answers.{told_read, told_written}
+use Rattle.job.specs.Answers.{job_values}
 use Rattle.job.proofs.read_job.Reads as read-job
 use Rattle.job.proofs.write_job.Reads as write-job
 use Rattle.answers.specs.Fields.{fields}
@@ -23,7 +24,7 @@ write_job_writes = record {
   Saying = Told;
   tell = λ told. told;
   answering = plainly;
-  said = λ call. told_written call.result;
+  said = λ call. told_word call.result;
   promise = λ call. call.promised;
 }
 
@@ -38,7 +39,7 @@ read_job_reads = record {
   Saying = Told;
   tell = λ told. told;
   answering = plainly;
-  said = λ call. told_read call.result;
+  said = λ call. told job_values call.result;
   promise = λ call. call.promised;
 }
 

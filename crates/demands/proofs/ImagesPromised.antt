@@ -10,8 +10,8 @@ use Rattle.basics.specs.Lists.{onto}
 use Rattle.refusals.specs.Tables.{Row, Told, first_of, after}
 use Rattle.refusals.specs.Tables.Row.{refuse◌at◌when◌}
 use Rattle.refusals.specs.Tables.Told.{answered}
-use Rattle.refusals.specs.Checks.{fine}
-use Rattle.refusals.proofs.Tables.{Numbered, answered-fine, fine-all, after-fine}
+use Rattle.refusals.specs.Answers.{fine}
+use Rattle.refusals.proofs.Tables.{Numbered, answered-fine, fine_all, after-fine}
 use Rattle.job.specs.Image.{image, lines_in, classes_in, gates_in, vectors_in, gate_words, vector_words}
 use Rattle.job.specs.Rules.{read_rows, write_rows, header_rows, content_rows}
 use Rattle.job.proofs.ImageLaws.{gates_front, vectors_front}
@@ -91,7 +91,7 @@ module _ (W : Writer) (c : W.Call) where
 
   -- it answers where no rule is broken, and has written the image where it answers
   pub writes : fine ≡ first_of rows fine → Writes W c (length (image n k words xs))
-  writes e = (W.promise c).0 ∙ ap W.tell (sym (fine-all rows _ e))
+  writes e = (W.promise c).0 ∙ ap W.tell (sym (fine_all rows _ e))
 
   pub wrote : (count : ℕ) → Writes W c count → Wrote n k words xs (W.room c) count (W.left c)
   wrote count answer =
@@ -150,7 +150,7 @@ module _ (R : Reader) (c : R.Call) where
 
   -- it answers where no rule is broken, and has read what the bytes hold where it answers
   pub reads : fine ≡ first_of reading_rows fine → Reads R c (lines_in bytes) (classes_in bytes) (gates_in bytes) (vectors_in bytes)
-  reads e = (R.promise c).0 ∙ ap R.tell (sym (fine-all reading_rows _ e))
+  reads e = (R.promise c).0 ∙ ap R.tell (sym (fine_all reading_rows _ e))
 
   pub has_read : (n k d m : ℕ) → Reads R c n k d m → HasRead bytes (R.gate_room c) (R.vector_room c) n k d m (R.gates c) (R.vectors c)
   unfolding gates_in vectors_in

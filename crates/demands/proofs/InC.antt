@@ -14,7 +14,7 @@ use Rattle.basics.specs.Lists.{All}
 use Rattle.refusals.specs.Tables.{Row, Told, first_of}
 use Rattle.refusals.specs.Tables.Row.{refuse◌at◌when◌}
 use Rattle.refusals.specs.Tables.Told.{answered, refused}
-use Rattle.refusals.specs.Checks.{fine}
+use Rattle.refusals.specs.Answers.{fine}
 use Rattle.refusals.proofs.Tables.{Numbered}
 use Rattle.refusals.proofs.Clashes.{answered-refused, refused-answered}
 use Rattle.answers.specs.Fields.{fields}

@@ -7,7 +7,7 @@ use lib.ListN.{length, drop}
 use borrow.Author.Tests.{eq-eqb}
 use Rattle.basics.specs.Lists.{each, All, onto}
 use Rattle.refusals.specs.Tables.{Row, first_of, after}
-use Rattle.refusals.specs.Checks.{fine}
+use Rattle.refusals.specs.Answers.{fine, told, told_word}
 use Rattle.refusals.proofs.Tables.{after-fine}
 use Rattle.circuit.specs.Gates.{gates_of}
 use Rattle.circuit.specs.Rules.{first_bad_gate, first_bad_vector, circuit_set_rows, set_rows}
@@ -17,7 +17,7 @@ use Rattle.circuit.proofs.RuleLaws.{lines_good, counts_good, VectorsOk, vectors_
 use Rattle.number_bytes.specs.Bytes.{bytes_of}
 use Rattle.job.specs.Image.{header, row_bytes, gate_count, image, lines_in, classes_in, gates_in, vectors_in, gate_words, vector_words}
 use Rattle.job.specs.Rules.{read_rows, write_rows}
-use Rattle.job.specs.Answers.{told_read, told_written}
+use Rattle.job.specs.Answers.{job_values}
 use Rattle.job.proofs.ReadLaws.{read_ok}
 use Rattle.job.proofs.WriteLaws.{write_ok}
 use Rattle.number_bytes.proofs.ByteLaws.{length-words}
@@ -188,7 +188,7 @@ module _ (bytes : List ℕ) where
 
 -- ---- the calls
 
-pub read_job_means : Answers read-job.Post (λ κs. told_read)
+pub read_job_means : Answers read-job.Post (λ κs. told job_values)
     (λ κs (bytes, (gates, (vectors, _))) values (_, (gates-after, (vectors-after, _))).
     ReadsOut bytes.now gates.now vectors.now values gates-after.now vectors-after.now)
 read_job_means = means refusing.read_job_refuses _ (λ κs a r e p. p.0) (λ κs a r e p u. reads_out _ _ _ _ _ u p.1.0 p.1.1)
@@ -198,7 +198,7 @@ pub read_job_in_c : AnswersInC c-read-job.Post (λ κs r. r.number) (λ κs r. r
     ReadsOut bytes.now gates.now vectors.now values gates-after.now vectors-after.now)
 read_job_in_c = means_in_c 4 refusing-in-c.read_job_refuses _ (λ κs a r e p. p.0) (λ κs a r e p u. reads_out _ _ _ _ _ u p.1.0 p.1.1)
 
-pub write_job_means : Answers write-job.Post (λ κs. told_written)
+pub write_job_means : Answers write-job.Post (λ κs. told_word)
     (λ κs (lines, (classes, (gates, (vectors, (out, _))))) values (_, (_, (_, (_, (out-after, _))))).
     Writes lines classes gates.now vectors.now out.now values out-after.now)
 write_job_means = means refusing.write_job_refuses _ (λ κs a r e p. p.0) (λ κs a r e p u. writes _ _ _ _ _ _ u p.1)

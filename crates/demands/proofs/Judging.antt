@@ -2,6 +2,7 @@
 -- complete or the first that none catches.
 use Prim.Native.Nat.{ℕ}
 use mathlib.Core.List.{List, [], ◌∷◌}
+use Rattle.refusals.specs.Answers.{told}
 use Rattle.basics.proofs.All.{all_map}
 use Rattle.circuit.specs.Gates.{gates_of}
 use Rattle.circuit.specs.Sound.{Sound}
@@ -9,7 +10,7 @@ use Rattle.circuit.specs.declared.Gate.{Gate}
 use Rattle.faults.specs.declared.Fault.{Fault}
 use Rattle.faults.specs.Classes.{class_faults}
 use Rattle.judge.specs.Judging.{caught_by_some, verdict}
-use Rattle.judge.specs.Answers.{told_verdict}
+use Rattle.judge.specs.Answers.{verdict_values}
 use Rattle.judge.proofs.RuleLaws.{judge_ok}
 use Rattle.judge.proofs.judge.Reads as judge
 use Rattle.judge.proofs.covering.cover.Reads as cover
@@ -49,7 +50,7 @@ judges n words xs class ok =
 
 -- ---- the calls
 
-pub judge_means : Answers judge.Post (λ κs. told_verdict)
+pub judge_means : Answers judge.Post (λ κs. told verdict_values)
     (λ κs (lines, (gates, (vectors, (class, _)))) values e. Judges lines gates.now vectors.now class values)
 unfolding verdict
 judge_means = means refusing.judge_refuses _ (λ κs a r e p. p) (λ κs a r e p u. judges _ _ _ _ (judge_ok _ _ _ _ u).set.set.circuit)
@@ -60,7 +61,7 @@ pub judge_in_c : AnswersInC c-judge.Post (λ κs r. r.number)
 unfolding verdict
 judge_in_c = means_in_c 7 refusing-in-c.judge_refuses _ (λ κs a r e p. p) (λ κs a r e p u. judges _ _ _ _ (judge_ok _ _ _ _ u).set.set.circuit)
 
-pub cover_means : Answers cover.Post (λ κs. told_verdict)
+pub cover_means : Answers cover.Post (λ κs. told verdict_values)
     (λ κs (lines, (gates, (vectors, (class, _)))) values e. Judges lines gates.now vectors.now class values)
 unfolding verdict
 cover_means = means refusing.cover_refuses _ (λ κs a r e p. p) (λ κs a r e p u. judges _ _ _ _ (judge_ok _ _ _ _ u).set.set.circuit)

@@ -39,8 +39,8 @@ use Rattle.demands.proofs.VerdictLaws.{Decides, decides_some, told_of, verdict-i
 
 -- the mark of a fault: a line of the word of its class, value and place; gates are counted from 1, and their faults have the value 0
 pub data Marked (c : Coverage) (f : Fault) : Type 0 where
-  stuck_at_0_lem : f.class ≡ 1 → f.value ≡ 0 → bit (get_or c.stuck_at_0 f.place 0) f.line ≡ 1 → Marked c f
-  stuck_at_1_lem : f.class ≡ 1 → f.value ≡ 1 → bit (get_or c.stuck_at_1 f.place 0) f.line ≡ 1 → Marked c f
+  stuck_at_0_lem : f.class ≡ 1 → f.value ≡ 0 → bit (get_or c.stuck_at.at_0 f.place 0) f.line ≡ 1 → Marked c f
+  stuck_at_1_lem : f.class ≡ 1 → f.value ≡ 1 → bit (get_or c.stuck_at.at_1 f.place 0) f.line ≡ 1 → Marked c f
   missing_gate : f.class ≡ 2 → 1 ≤ f.place → f.value ≡ 0 → bit (get_or c.missing_gates (f.place - 1) 0) f.line ≡ 1 → Marked c f
   missing_control : f.class ≡ 3 → 1 ≤ f.place → f.value ≡ 0 → bit (get_or c.missing_controls (f.place - 1) 0) f.line ≡ 1 → Marked c f
   extra_control : f.class ≡ 4 → 1 ≤ f.place → f.value ≡ 0 → bit (get_or c.extra_controls (f.place - 1) 0) f.line ≡ 1 → Marked c f
@@ -50,8 +50,8 @@ Unmarked c f = Marked c f → ⊥
 
 -- its arrays have their lengths
 pub record Full (c : Coverage) : Type 0 where
-  pub levels_0 : length c.stuck_at_0 ≡ 1025
-  pub levels_1 : length c.stuck_at_1 ≡ 1025
+  pub levels_0 : length c.stuck_at.at_0 ≡ 1025
+  pub levels_1 : length c.stuck_at.at_1 ≡ 1025
   pub gates : length c.missing_gates ≡ 1024
   pub controls : length c.missing_controls ≡ 1024
   pub extras : length c.extra_controls ≡ 1024
@@ -79,11 +79,11 @@ pub record Adds (n : ℕ) (words : List ℕ) (x : ℕ) (old new : Coverage) : Ty
 -- ---- the promised coverage is so
 
 module _ (c : Coverage) (f : Fault) where
-  is_0 : f.class ≡ 1 → f.value ≡ 0 → is_marked c f ≡ eqb (bit (get_or c.stuck_at_0 f.place 0) f.line) 1
+  is_0 : f.class ≡ 1 → f.value ≡ 0 → is_marked c f ≡ eqb (bit (get_or c.stuck_at.at_0 f.place 0) f.line) 1
   unfolding is_marked
   is_0 e v = rw (eq-eqb f.class 1 e, eq-eqb f.value 0 v)
 
-  is_1 : f.class ≡ 1 → f.value ≡ 1 → is_marked c f ≡ eqb (bit (get_or c.stuck_at_1 f.place 0) f.line) 1
+  is_1 : f.class ≡ 1 → f.value ≡ 1 → is_marked c f ≡ eqb (bit (get_or c.stuck_at.at_1 f.place 0) f.line) 1
   unfolding is_marked
   is_1 e v = rw (eq-eqb f.class 1 e, ne_eqb f.value 0 (λ q. omega arith), eq-eqb f.value 1 v)
 
@@ -163,8 +163,8 @@ module _ (n : ℕ) (words : List ℕ) (x : ℕ) (c : Coverage) (ok : Sound n wor
   still_full : Full c → Full new
   unfolding with_vector
   still_full w = record {
-    levels_0 = marked-length c.stuck_at_0 _ ∙ w.levels_0;
-    levels_1 = marked-length c.stuck_at_1 _ ∙ w.levels_1;
+    levels_0 = marked-length c.stuck_at.at_0 _ ∙ w.levels_0;
+    levels_1 = marked-length c.stuck_at.at_1 _ ∙ w.levels_1;
     gates = marked-length c.missing_gates _ ∙ w.gates;
     controls = marked-length c.missing_controls _ ∙ w.controls;
     extras = marked-length c.extra_controls _ ∙ w.extras;

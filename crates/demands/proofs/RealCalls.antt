@@ -6,16 +6,16 @@ use mathlib.Core.Bool.{true, false}
 use mathlib.Core.List.{List, [], ◌∷◌}
 use native.Mathlib.Omega.{arith}
 use lib.ListN.{length}
+use Rattle.refusals.specs.Answers.{told, told_word}
 use Rattle.refusals.specs.Tables.{Row, Told, first_of}
 use Rattle.refusals.specs.Tables.Row.{refuse◌at◌when◌}
 use Rattle.refusals.specs.Tables.Told.{answered, refused}
 use Rattle.refusals.proofs.Tables.{Numbered}
 use Rattle.circuit.specs.Rules.{circuit_set_rows, circuit_rows}
-use Rattle.real_import.specs.Answers.{told_imported}
+use Rattle.real_import.specs.Answers.{imported_values}
 use Rattle.real_import.specs.Promises.{import_tells, import_leaves}
 use Rattle.real_import.specs.Rules.{import_rows}
 use Rattle.real_import.proofs.import.Reads as import-call
-use Rattle.real_export.specs.Answers.{told_exported}
 use Rattle.real_export.specs.Promises.{export_tells, export_leaves}
 use Rattle.real_export.specs.Rules.{export_rows}
 use Rattle.real_export.proofs.export.Reads as export-call
@@ -107,7 +107,7 @@ import_imports = record {
   room = λ call. let (_, (gates, _)) = call.inputs in gates.now;
   left = λ call. let (_, (gates-after, _)) = call.exit in gates-after.now;
   way = plainly;
-  said = λ call. told_imported call.result;
+  said = λ call. told imported_values call.result;
   tells = λ call. call.promised.0;
   leaves = λ call. call.promised.1;
 }
@@ -120,7 +120,7 @@ export_exports = record {
   room = λ call. let (_, (_, (out, _))) = call.inputs in out.now;
   left = λ call. let (_, (_, (out-after, _))) = call.exit in out-after.now;
   way = plainly;
-  said = λ call. told_exported call.result;
+  said = λ call. told_word call.result;
   tells = λ call. call.promised.0;
   leaves = λ call. call.promised.1;
 }

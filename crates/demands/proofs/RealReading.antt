@@ -11,7 +11,7 @@ use lib.Dec.{eqb}
 use Rattle.basics.specs.Choice.{choice}
 use Rattle.basics.specs.Lists.{keep}
 use Rattle.refusals.specs.Tables.{first_of}
-use Rattle.refusals.specs.Checks.{fine}
+use Rattle.refusals.specs.Answers.{fine}
 use Rattle.circuit.specs.Rules.{circuit_rows}
 use Rattle.text.specs.Texts.{ascii, every, begins, same, among, distinct}
 use Rattle.text.specs.Decimal.{decimal, is_number}

@@ -18,10 +18,10 @@ use Rattle.basics.proofs.Tests.{by_test}
 use Rattle.refusals.specs.Tables.{Row, Told, first_of}
 use Rattle.refusals.specs.Tables.Row.{refuse◌at◌when◌}
 use Rattle.refusals.specs.Tables.Told.{answered, refused}
-use Rattle.refusals.specs.Checks.{fine}
+use Rattle.refusals.specs.Answers.{fine}
 use Rattle.refusals.specs.Places.{in_word}
 use Rattle.refusals.proofs.Clashes.{answered-refused, refused-answered}
-use Rattle.refusals.proofs.Tables.{answered-fine, fine-all, fine_on, fine-parts, fine_row, after-fine}
+use Rattle.refusals.proofs.Tables.{answered-fine, fine_all, fine_on, fine-parts, fine_row, after-fine}
 use Rattle.circuit.specs.Gates.{gates_of}
 use Rattle.circuit.specs.Rules.{bad_lines, circuit_set_rows, circuit_rows}
 use Rattle.circuit.proofs.GateLaws.{gates_count}
@@ -83,7 +83,7 @@ module _ (text words : List ℕ) (n : ℕ) (room : List ℕ) (is : reading text 
 
   tells-circuit : import_tells text room ≡ answered (n ∷ length words / 3 ∷ [])
   tells-circuit =
-      sym (fine-all (import_rows text (length room)) _ rows_fine)
+      sym (fine_all (import_rows text (length room)) _ rows_fine)
       ∙ ap (λ r. answered (lines_read r ∷ length (gates_of (words_read r)) ∷ [])) is
       ∙ ap (λ d. answered (n ∷ d ∷ [])) (gates_count words)
 

@@ -12,7 +12,7 @@ use Rattle.basics.specs.Lists.{up_from, keep, each, All}
 use Rattle.basics.proofs.Tests.{by_test, by_equal, choice-true, choice-false}
 use Rattle.words.specs.Word.{bit}
 use Rattle.refusals.specs.Tables.{first_of, after}
-use Rattle.refusals.specs.Checks.{fine}
+use Rattle.refusals.specs.Answers.{fine, told_word}
 use Rattle.refusals.proofs.Tables.{after-fine}
 use Rattle.circuit.specs.Gates.{gates_of}
 use Rattle.circuit.specs.Sound.{Sound}
@@ -29,7 +29,6 @@ use Rattle.report_text.specs.Lines.{spaced, line}
 use Rattle.report_text.specs.Report.{letter_of, shown, first_text, class_text, job_text, refused_text, text_of, report_text}
 use Rattle.job.specs.Wanted.{is_wanted, wanted}
 use Rattle.report_text.specs.Rules.{report_rows}
-use Rattle.report_text.specs.Answers.{told_reported}
 use Rattle.report_text.proofs.report.Reads as report
 use Rattle.nufsadeem.proofs.jobs.nuf_report.Reads as c-report
 use Rattle.demands.proofs.FirstBroken.{FirstBroken, by_first}
@@ -216,7 +215,7 @@ writes_report bytes room exit unbroken made = record {
 
 -- ---- the call
 
-pub report_means : Answers report.Post (λ κs. told_reported)
+pub report_means : Answers report.Post (λ κs. told_word)
     (λ κs (bytes, (out, _)) values (_, (out-after, _)). WritesReport bytes.now out.now values out-after.now)
 report_means = means refusing.report_refuses _ (λ κs a r e p. p.0) (λ κs a r e p u. writes_report _ _ _ u p.1)
 

@@ -6,13 +6,12 @@ use native.Mathlib.Omega.{arith}
 use lib.ListN.{length, take}
 use Rattle.refusals.specs.Tables.{Row, Told, first_of}
 use Rattle.refusals.specs.Tables.Told.{answered}
-use Rattle.refusals.specs.Checks.{fine}
-use Rattle.refusals.proofs.Tables.{fine_on, fine-all, fine-parts, answered-fine}
+use Rattle.refusals.specs.Answers.{fine, told_word}
+use Rattle.refusals.proofs.Tables.{fine_on, fine_all, fine-parts, answered-fine}
 use Rattle.circuit.specs.Gates.{gates_of, gate_at, no_gate}
 use Rattle.circuit.specs.Runs.{step, run, forward, backward}
 use Rattle.circuit.specs.Rules.{circuit_rows, vector_rows, level_rows, run_rows}
 use Rattle.circuit.specs.Sound.{AllOk}
-use Rattle.circuit.specs.Answers.{told_ran}
 use Rattle.circuit.specs.declared.Gate.{Gate}
 use Rattle.circuit.proofs.RuleLaws.{RunOk, run_ok}
 use Rattle.circuit.proofs.RunLaws.{forward-lt, backward-lt, forward-backward, backward-forward, level_step, suc-sub-one}
@@ -83,11 +82,11 @@ module _ (n : ℕ) (words : List ℕ) (level state : ℕ) (unbroken : fine ≡ f
 
 -- ---- the calls
 
-pub forward_means : Answers forward-call.Post (λ κs. told_ran)
+pub forward_means : Answers forward-call.Post (λ κs. told_word)
     (λ κs (lines, (gates, (level, (state, _)))) values e. RunsForward lines gates.now level state values)
 forward_means = means refusing.forward_refuses _ (λ κs a r e p. p) (λ κs a r e p u. runs_forward _ _ _ _ u)
 
-pub backward_means : Answers backward-call.Post (λ κs. told_ran)
+pub backward_means : Answers backward-call.Post (λ κs. told_word)
     (λ κs (lines, (gates, (level, (state, _)))) values e. RunsBackward lines gates.now level state values)
 backward_means = means refusing.backward_refuses _ (λ κs a r e p. p) (λ κs a r e p u. runs_backward _ _ _ _ u)
 
@@ -149,7 +148,7 @@ module _ (n : ℕ) (words : List ℕ) (level x s : ℕ) (first second : Told) wh
         let sound : AllOk n gates = ok.state.circuit.gates_ok in
         let there : s ≡ run gates level x = cc in
         let fits : s < 2 ^ n = subst (λ t. t < 2 ^ n) (sym there) (stays sound ok.state.vector) in
-        q ∙ sym (fine-all (run_rows n words level s) _ (other_state n words level x s w.1 fits))
+        q ∙ sym (fine_all (run_rows n words level s) _ (other_state n words level x s w.1 fits))
         ∙ ap (λ t. answered (t ∷ [])) (ap (back gates level) there ∙ undone sound)
 
   pub back_again : first ≡ first_of (run_rows n words level x) (answered (forward gates level x ∷ [])) → first ≡ answered (s ∷ [])

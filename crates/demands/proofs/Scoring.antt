@@ -29,7 +29,7 @@ use Rattle.faults.specs.declared.Fault.{Fault}
 use Rattle.faults.proofs.ClassLists.{list_one}
 use Rattle.simulator.specs.Faulty.{caught}
 use Rattle.marking.specs.Marks.{is_on, level_marked}
-use Rattle.testsets.specs.Left.{left_of, Left}
+use Rattle.testsets.specs.Left.{left_of, Within}
 use Rattle.testsets.specs.Sets.{score}
 use Rattle.testsets.proofs.LeftLaws.{newly_caught, score-all}
 use Rattle.testsets.proofs.ScoreCall as score-call
@@ -143,7 +143,7 @@ decides_left at0 at1 f h =
 
 -- ---- the promised score is so
 
-module _ (n : ℕ) (words at0 at1 : List ℕ) (x : ℕ) (sound : Sound n words) (on : Left n (gates_of words) at0 at1) where
+module _ (n : ℕ) (words at0 at1 : List ℕ) (x : ℕ) (sound : Sound n words) (on : Within n (gates_of words) at0 at1) where
   abbrev its : List Gate
   its = gates_of words
 
@@ -178,9 +178,12 @@ module _ (n : ℕ) (words at0 at1 : List ℕ) (x : ℕ) (sound : Sound n words) 
         count-is = promised;
       }
 
--- ---- over the contract of `testsets::left::score`
+-- ---- over the contract of `testsets::left::Left::score`; the words of what is left are of a sound circuit, within its sites, by their type
 
 pub score_walks : (call : Ended score-call.Post) → score-call.Pre call.lifetimes call.inputs
-    → let (lines, (gates, (left-0, (left-1, (vector, _))))) = call.inputs in
-    Scores lines gates.now left-0.now left-1.now vector call.result
-score_walks call asked = scores _ _ _ _ _ asked.0 asked.1.0 call.result call.promised
+    → let (left, (vector, _)) = call.inputs in
+    let circuit = left.now.circuit in
+    Scores circuit.lines circuit.gates.now left.now.at_0 left.now.at_1 vector call.result
+score_walks call asked =
+    let (left, (vector, _)) = call.inputs in
+    scores _ _ _ _ _ left.now.circuit.sound left.now.within call.result call.promised

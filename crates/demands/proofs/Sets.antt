@@ -12,7 +12,7 @@ use Rattle.words.specs.Word.{bit, all_ones}
 use Rattle.words.proofs.Masks.{bit-all_ones}
 use Rattle.words.proofs.Inverse.{bit-inverse}
 use Rattle.refusals.specs.Tables.{first_of, after}
-use Rattle.refusals.specs.Checks.{fine}
+use Rattle.refusals.specs.Answers.{fine, told_word}
 use Rattle.refusals.proofs.Tables.{after-fine}
 use Rattle.circuit.specs.Gates.{gates_of}
 use Rattle.circuit.specs.Runs.{forward}
@@ -27,7 +27,6 @@ use Rattle.testsets.specs.Log2.{log2}
 use Rattle.testsets.specs.Sets.{Complete, backward_input, backward_set, bound, compact_set}
 use Rattle.faults.specs.Sites.{site_count}
 use Rattle.testsets.specs.Rules.{backward_rows, compact_rows}
-use Rattle.testsets.specs.Answers.{told_made}
 use Rattle.testsets.proofs.Log2Laws.{log2-lt, log2-le}
 use Rattle.faults.proofs.SiteCount.{site_count-some}
 use Rattle.testsets.proofs.RuleLaws.{backward_ok, compact_ok}
@@ -171,7 +170,7 @@ module _ (n : ℕ) (words room exit : List ℕ) where
 
 -- ---- the calls
 
-pub backward_set_means : Answers backward-set.Post (λ κs. told_made)
+pub backward_set_means : Answers backward-set.Post (λ κs. told_word)
     (λ κs (lines, (gates, (room, _))) values (_, (_, (room-after, _))). MakesBackward lines gates.now room.now values room-after.now)
 backward_set_means = means refusing.backward_set_refuses _ (λ κs a r e p. p.0) (λ κs a r e p u. makes_backward _ _ _ _ u p.1)
 
@@ -179,7 +178,7 @@ pub backward_set_in_c : AnswersInC c-backward-set.Post (λ κs r. r.number) (λ 
     (λ κs (lines, (gates, (room, _))) values (_, (_, (room-after, _))). MakesBackward lines gates.now room.now values room-after.now)
 backward_set_in_c = means_in_c 1 refusing-in-c.backward_set_refuses _ (λ κs a r e p. p.0) (λ κs a r e p u. makes_backward _ _ _ _ u p.1)
 
-pub compact_set_means : Answers compact-set.Post (λ κs. told_made)
+pub compact_set_means : Answers compact-set.Post (λ κs. told_word)
     (λ κs (lines, (gates, (room, _))) values (_, (_, (room-after, _))). MakesCompact lines gates.now room.now values room-after.now)
 compact_set_means = means refusing.compact_set_refuses _ (λ κs a r e p. p.0) (λ κs a r e p u. makes_compact _ _ _ _ u p.1)
 

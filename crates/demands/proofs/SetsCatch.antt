@@ -10,8 +10,8 @@ use Rattle.basics.proofs.Lists.{all_entry}
 use Rattle.basics.proofs.All.{all_map}
 use Rattle.refusals.specs.Tables.{Told, first_of}
 use Rattle.refusals.specs.Tables.Told.{answered}
-use Rattle.refusals.specs.Checks.{fine}
-use Rattle.refusals.proofs.Tables.{fine-all}
+use Rattle.refusals.specs.Answers.{fine}
+use Rattle.refusals.proofs.Tables.{fine_all}
 use Rattle.circuit.specs.Gates.{gates_of}
 use Rattle.circuit.specs.declared.Gate.{Gate}
 use Rattle.simulator.specs.Faulty.{caught}
@@ -49,7 +49,7 @@ module _ (n : ℕ) (words : List ℕ) (gs : List Gate) (circuit : Circuit n word
       let v : ℕ = w.0 in
       let is : caught (gates_of words) f v ≡ true = ap (λ hs. caught hs f v) same_gates ∙ (caught_means n gs f has v).1 w.2 in
       let passes = passes_too n words x v (fault_rows n words f) taken (all_entry (λ y. y < 2 ^ n) w.1 inputs) in
-      (v, w.1, λ t p. p ∙ sym (fine-all (catch_rows n words v f) _ passes) ∙ ap (λ b. answered (count b ∷ [])) is)
+      (v, w.1, λ t p. p ∙ sym (fine_all (catch_rows n words v f) _ passes) ∙ ap (λ b. answered (count b ∷ [])) is)
 
   -- it catches each multiple fault too, whose entries are stuck lines
   multiple_caught : (fs : List Fault) → Multiple n gs fs → (v : ℕ) × Memᴰ v set × (caught_together gs fs v ≡ true)
@@ -70,7 +70,7 @@ module _ (n : ℕ) (words : List ℕ) (gs : List Gate) (circuit : Circuit n word
       let v : ℕ = w.0 in
       let is : caught_together (gates_of words) (faults_of list) v ≡ true = ap (λ hs. caught_together hs (faults_of list) v) same_gates ∙ w.2 in
       let passes = passes_too n words x v (entries_rows n words list) taken (all_entry (λ y. y < 2 ^ n) w.1 inputs) in
-      (v, w.1, λ t p. p ∙ sym (fine-all (multiple_rows n words v list) _ passes) ∙ ap (λ b. answered (count b ∷ [])) is)
+      (v, w.1, λ t p. p ∙ sym (fine_all (multiple_rows n words v list) _ passes) ∙ ap (λ b. answered (count b ∷ [])) is)
 
 -- ---- the compact set, by what was told of it and what stands in the room: the front of the room is the set
 

@@ -11,7 +11,7 @@ use Rattle.words.specs.Word.{bit, force, all_ones}
 use Rattle.words.proofs.Lines.{bit-force-same, bit_force_other}
 use Rattle.words.proofs.Masks.{bit-all_ones}
 use Rattle.refusals.specs.Tables.{first_of}
-use Rattle.refusals.specs.Checks.{fine}
+use Rattle.refusals.specs.Answers.{fine, told_word}
 use Rattle.circuit.specs.Gates.{gates_of}
 use Rattle.circuit.specs.Runs.{forward}
 use Rattle.circuit.specs.declared.Gate.{Gate}
@@ -19,7 +19,6 @@ use Rattle.circuit.proofs.RunLaws.{forward-backward}
 use Rattle.faults.specs.Rules.{is_fault}
 use Rattle.fault_test.specs.Rules.{test_rows}
 use Rattle.fault_test.specs.Tests.{test_level, test_state, test_for}
-use Rattle.fault_test.specs.Answers.{told_test}
 use Rattle.faults.specs.declared.Fault.{Fault}
 use Rattle.fault_test.proofs.RuleLaws.{TestOk, test_ok}
 use Rattle.faults.proofs.RuleLaws.{class_last}
@@ -119,7 +118,7 @@ module _ (n : ℕ) (words : List ℕ) (f : Fault) (unbroken : fine ≡ first_of 
 
 -- ---- the call
 
-pub test_for_means : Answers test-for.Post (λ κs. told_test)
+pub test_for_means : Answers test-for.Post (λ κs. told_word)
     (λ κs (lines, (gates, (fault, _))) values e. Tests lines gates.now fault values)
 test_for_means = means refusing.test_for_refuses _ (λ κs a r e p. p) (λ κs a r e p u. tests _ _ _ u)
 

@@ -1,55 +1,41 @@
 -- Each public call's contract allows one result, and one final content of the memory that it was lent: two results that it
 -- allows for equal inputs are equal. `Post` is the call's `ensures`, as the check made it from the code.
-use mathlib.Core.Path.{◌≡◌, refl, sym, ap, ◌∙◌}
+use Rattle.std.specs.Prelude.{◌≡◌, refl, []}
+use Rattle.std.proofs.Common.{sym, ◌∙◌}
 use Rattle.words.proofs.ones.Reads as ones
 use Rattle.words.proofs.lacking.Reads as lacking
 use Rattle.words.proofs.lone_zero.Reads as lone-zero
-use Rattle.refusals.specs.Checks.{found}
-use Rattle.refusals.specs.declared.Checked.{Checked}
-use Rattle.refusals.specs.declared.Checked.TheVariants.{Fine, Wrong}
-use Rattle.refusals.proofs.Tables.{told_refusal}
-use Rattle.refusals.proofs.Clashes.{answered-refused, refused-answered}
-use Rattle.refusals.proofs.unless.Reads as unless
+use Rattle.refusals.specs.Answers.{told, told_word, told_yes}
+use Rattle.refusals.proofs.OneAnswer.{told-one, told_word-one, told_yes-one}
+use Rattle.refusals.proofs.Refusal.number.Reads as number
+use Rattle.refusals.proofs.Refusal.place.Reads as place
+use Rattle.refusals.proofs.refuse_when.Reads as refuse-when
 use Rattle.refusals.proofs.in_word.Reads as in_word_lem
-use Rattle.circuit.specs.Answers.{told_ran}
-use Rattle.circuit.proofs.AnswerLaws.{told_ran-one}
 use Rattle.circuit.proofs.forward.Reads as forward
 use Rattle.circuit.proofs.backward.Reads as backward
-use Rattle.simulator.specs.Answers.{told_output, told_caught}
-use Rattle.fault_test.specs.Answers.{told_test}
-use Rattle.simulator.proofs.AnswerLaws.{told_output-one, told_caught-one}
-use Rattle.fault_test.proofs.AnswerLaws.{told_test-one}
 use Rattle.simulator.proofs.faulty_run.Reads as faulty-run
 use Rattle.simulator.proofs.catches.Reads as catches
 use Rattle.multiple_faults.proofs.catches_multiple.Reads as catches-multiple
 use Rattle.fault_test.proofs.test_for.Reads as test-for
-use Rattle.judge.specs.Answers.{told_verdict, told_beside}
-use Rattle.judge.proofs.AnswerLaws.{told_verdict-one, told_beside-one}
+use Rattle.judge.specs.Answers.{verdict_values}
+use Rattle.judge.proofs.AnswerLaws.{verdict_values-one, added-one}
 use Rattle.judge.proofs.judge.Reads as judge
 use Rattle.judge.proofs.coverage.Coverage.empty.Reads as coverage-empty
 use Rattle.judge.proofs.coverage.Coverage.with_vector.Reads as coverage-with-vector
 use Rattle.judge.proofs.coverage.Coverage.count.Reads as coverage-count
 use Rattle.judge.proofs.covering.cover.Reads as cover
-use Rattle.dropping.specs.Answers.{told_dropped}
-use Rattle.dropping.proofs.AnswerLaws.{told_dropped-one}
 use Rattle.dropping.proofs.drop.Reads as drop
 use Rattle.dropping.proofs.drop_records.Reads as drop-records
-use Rattle.testsets.specs.Answers.{told_made}
-use Rattle.testsets.proofs.AnswerLaws.{told_made-one}
 use Rattle.testsets.proofs.backward_set.Reads as backward-set
 use Rattle.testsets.proofs.compact_set.Reads as compact-set
-use Rattle.real_export.specs.Answers.{told_exported}
-use Rattle.real_export.proofs.AnswerLaws.{told_exported-one}
 use Rattle.real_export.proofs.export.Reads as export
-use Rattle.real_import.specs.Answers.{told_imported}
+use Rattle.real_import.specs.Answers.{imported_values}
 use Rattle.real_import.proofs.AnswerLaws.{told_imported-one}
 use Rattle.real_import.proofs.import.Reads as import
-use Rattle.job.specs.Answers.{told_read, told_written}
-use Rattle.job.proofs.AnswerLaws.{told_read-one, told_written-one}
+use Rattle.job.specs.Answers.{job_values}
+use Rattle.job.proofs.AnswerLaws.{told_job-one}
 use Rattle.job.proofs.read_job.Reads as read-job
 use Rattle.job.proofs.write_job.Reads as write-job
-use Rattle.report_text.specs.Answers.{told_reported}
-use Rattle.report_text.proofs.AnswerLaws.{told_reported-one}
 use Rattle.report_text.proofs.report.Reads as report
 
 -- ---- the law
@@ -92,15 +78,15 @@ pub lone_zero-one : OneResult lone-zero.Post
 lone_zero-one κs a b equal r s e f p q = same p cc
 
 -- refusals
-found-one : (r s : Checked) → found r ≡ found s → r ≡ s
-found-one Fine Fine e = refl
-found-one Fine (Wrong q) e = answered-refused e
-found-one (Wrong p) Fine e = refused-answered e
-found-one (Wrong p) (Wrong q) e = ap Wrong (told_refusal p q e)
+pub number_one : OneResult number.Post (λ κs (refusal, _) (refusal', _). refusal ≡ refusal')
+number_one κs a b equal r s e f p q = same p cc
 
-pub unless_one : OneResult unless.Post
-    (λ κs (holds, (number, (place, _))) (holds', (number', (place', _))). (holds ≡ holds') × (number ≡ number') × (place ≡ place'))
-unless_one κs a b equal r s e f p q = one found found-one r s p cc
+pub place_one : OneResult place.Post (λ κs (refusal, _) (refusal', _). refusal ≡ refusal')
+place_one κs a b equal r s e f p q = same p cc
+
+pub refuse_when_one : OneResult refuse-when.Post
+    (λ κs (broken, (refusal, _)) (broken', (refusal', _)). (broken ≡ broken') × (refusal ≡ refusal'))
+refuse_when_one κs a b equal r s e f p q = one (told (λ _. [])) (told-one (λ _. []) (λ a b e. refl)) r s p cc
 
 pub in_word-one : OneResult in_word_lem.Post
     (λ κs (number, _) (number', _). number ≡ number')
@@ -110,38 +96,38 @@ in_word-one κs a b equal r s e f p q = same p cc
 pub forward-one : OneResult forward.Post
     (λ κs (lines, (gates, (level, (state, _)))) (lines', (gates', (level', (state', _)))).
     (lines ≡ lines') × (gates.now ≡ gates'.now) × (level ≡ level') × (state ≡ state'))
-forward-one κs a b equal r s e f p q = one told_ran told_ran-one r s p cc
+forward-one κs a b equal r s e f p q = one told_word told_word-one r s p cc
 
 pub backward-one : OneResult backward.Post
     (λ κs (lines, (gates, (level, (state, _)))) (lines', (gates', (level', (state', _)))).
     (lines ≡ lines') × (gates.now ≡ gates'.now) × (level ≡ level') × (state ≡ state'))
-backward-one κs a b equal r s e f p q = one told_ran told_ran-one r s p cc
+backward-one κs a b equal r s e f p q = one told_word told_word-one r s p cc
 
 -- simulator
 pub faulty-run-one : OneResult faulty-run.Post
     (λ κs (lines, (gates, (vector, (fault, _)))) (lines', (gates', (vector', (fault', _)))).
     (lines ≡ lines') × (gates.now ≡ gates'.now) × (vector ≡ vector') × (fault ≡ fault'))
-faulty-run-one κs a b equal r s e f p q = one told_output told_output-one r s p cc
+faulty-run-one κs a b equal r s e f p q = one told_word told_word-one r s p cc
 
 pub catches_one : OneResult catches.Post
     (λ κs (lines, (gates, (vector, (fault, _)))) (lines', (gates', (vector', (fault', _)))).
     (lines ≡ lines') × (gates.now ≡ gates'.now) × (vector ≡ vector') × (fault ≡ fault'))
-catches_one κs a b equal r s e f p q = one told_caught told_caught-one r s p cc
+catches_one κs a b equal r s e f p q = one told_yes told_yes-one r s p cc
 
 pub catches_multiple_one : OneResult catches-multiple.Post
     (λ κs (lines, (gates, (vector, (entries, _)))) (lines', (gates', (vector', (entries', _)))).
     (lines ≡ lines') × (gates.now ≡ gates'.now) × (vector ≡ vector') × (entries.now ≡ entries'.now))
-catches_multiple_one κs a b equal r s e f p q = one told_caught told_caught-one r s p cc
+catches_multiple_one κs a b equal r s e f p q = one told_yes told_yes-one r s p cc
 
 pub test_for-one : OneResult test-for.Post
     (λ κs (lines, (gates, (fault, _))) (lines', (gates', (fault', _))). (lines ≡ lines') × (gates.now ≡ gates'.now) × (fault ≡ fault'))
-test_for-one κs a b equal r s e f p q = one told_test told_test-one r s p cc
+test_for-one κs a b equal r s e f p q = one told_word told_word-one r s p cc
 
 -- judge
 pub judge_one : OneResult judge.Post
     (λ κs (lines, (gates, (vectors, (class, _)))) (lines', (gates', (vectors', (class', _)))).
     (lines ≡ lines') × (gates.now ≡ gates'.now) × (vectors.now ≡ vectors'.now) × (class ≡ class'))
-judge_one κs a b equal r s e f p q = one told_verdict told_verdict-one r s p cc
+judge_one κs a b equal r s e f p q = one (told verdict_values) (told-one verdict_values verdict_values-one) r s p cc
 
 pub coverage_empty_one : OneResult coverage-empty.Post (λ κs a b. Unit {0})
 coverage_empty_one κs a b equal r s e f p q = same p q
@@ -150,72 +136,70 @@ pub coverage_with_vector_one : OneResult coverage-with-vector.Post
     (λ κs (coverage, (lines, (gates, (vector, _)))) (coverage', (lines', (gates', (vector', _)))).
     (coverage ≡ coverage') × (lines ≡ lines') × (gates.now ≡ gates'.now) × (vector ≡ vector'))
 coverage_with_vector_one κs a b equal r s e f p q =
-    let refusal = one told_beside told_beside-one r.refusal s.refusal p.0 cc in
-    let coverage : r.coverage ≡ s.coverage = same p.1 cc in
-    λ i. record { refusal = refusal i; coverage = coverage i }
+    added-one r s (same p.0 cc) (same p.1 cc)
 
 pub coverage_count_one : OneResult coverage-count.Post
     (λ κs (coverage, (lines, (gates, (class, _)))) (coverage', (lines', (gates', (class', _)))).
     (coverage ≡ coverage') × (lines ≡ lines') × (gates.now ≡ gates'.now) × (class ≡ class'))
-coverage_count_one κs a b equal r s e f p q = one told_verdict told_verdict-one r s p cc
+coverage_count_one κs a b equal r s e f p q = one (told verdict_values) (told-one verdict_values verdict_values-one) r s p cc
 
 pub cover_one : OneResult cover.Post
     (λ κs (lines, (gates, (vectors, (class, _)))) (lines', (gates', (vectors', (class', _)))).
     (lines ≡ lines') × (gates.now ≡ gates'.now) × (vectors.now ≡ vectors'.now) × (class ≡ class'))
-cover_one κs a b equal r s e f p q = one told_verdict told_verdict-one r s p cc
+cover_one κs a b equal r s e f p q = one (told verdict_values) (told-one verdict_values verdict_values-one) r s p cc
 
 -- dropping
 pub drop-one : OneResultAndMemory drop.Post
     (λ κs (lines, (gates, (vector, (list, _)))) (lines', (gates', (vector', (list', _)))).
     (lines ≡ lines') × (gates.now ≡ gates'.now) × (vector ≡ vector') × (list.now ≡ list'.now))
     (λ κs (_, (_, (_, (list-after, _)))) f. list-after.now ≡ f.1.1.1.0.now)
-drop-one κs a b equal r s e f p q = (one told_dropped told_dropped-one r s p.0 cc, same p.1 cc)
+drop-one κs a b equal r s e f p q = (one told_word told_word-one r s p.0 cc, same p.1 cc)
 
 pub drop_records_one : OneResultAndMemory drop-records.Post
     (λ κs (lines, (gates, (vector, (list, _)))) (lines', (gates', (vector', (list', _)))).
     (lines ≡ lines') × (gates.now ≡ gates'.now) × (vector ≡ vector') × (list.now ≡ list'.now))
     (λ κs (_, (_, (_, (list-after, _)))) f. list-after.now ≡ f.1.1.1.0.now)
-drop_records_one κs a b equal r s e f p q = (one told_dropped told_dropped-one r s p.0 cc, same p.1 cc)
+drop_records_one κs a b equal r s e f p q = (one told_word told_word-one r s p.0 cc, same p.1 cc)
 
 -- testsets
 pub backward_set-one : OneResultAndMemory backward-set.Post
     (λ κs (lines, (gates, (room, _))) (lines', (gates', (room', _))). (lines ≡ lines') × (gates.now ≡ gates'.now) × (room.now ≡ room'.now))
     (λ κs (_, (_, (room-after, _))) f. room-after.now ≡ f.1.1.0.now)
-backward_set-one κs a b equal r s e f p q = (one told_made told_made-one r s p.0 cc, same p.1 cc)
+backward_set-one κs a b equal r s e f p q = (one told_word told_word-one r s p.0 cc, same p.1 cc)
 
 pub compact_set-one : OneResultAndMemory compact-set.Post
     (λ κs (lines, (gates, (room, _))) (lines', (gates', (room', _))). (lines ≡ lines') × (gates.now ≡ gates'.now) × (room.now ≡ room'.now))
     (λ κs (_, (_, (room-after, _))) f. room-after.now ≡ f.1.1.0.now)
-compact_set-one κs a b equal r s e f p q = (one told_made told_made-one r s p.0 cc, same p.1 cc)
+compact_set-one κs a b equal r s e f p q = (one told_word told_word-one r s p.0 cc, same p.1 cc)
 
 -- real_export
 pub export_one : OneResultAndMemory export.Post
     (λ κs (lines, (gates, (out, _))) (lines', (gates', (out', _))). (lines ≡ lines') × (gates.now ≡ gates'.now) × (out.now ≡ out'.now))
     (λ κs (_, (_, (out-after, _))) f. out-after.now ≡ f.1.1.0.now)
-export_one κs a b equal r s e f p q = (one told_exported told_exported-one r s p.0 cc, same p.1 cc)
+export_one κs a b equal r s e f p q = (one told_word told_word-one r s p.0 cc, same p.1 cc)
 
 -- real_import
 pub import_one : OneResultAndMemory import.Post
     (λ κs (text, (gates, _)) (text', (gates', _)). (text.now ≡ text'.now) × (gates.now ≡ gates'.now))
     (λ κs (_, (gates-after, _)) f. gates-after.now ≡ f.1.0.now)
-import_one κs a b equal r s e f p q = (one told_imported told_imported-one r s p.0 cc, same p.1 cc)
+import_one κs a b equal r s e f p q = (one (told imported_values) told_imported-one r s p.0 cc, same p.1 cc)
 
 -- job
 pub read-job-one : OneResultAndMemory read-job.Post
     (λ κs (bytes, (gates, (vectors, _))) (bytes', (gates', (vectors', _))).
     (bytes.now ≡ bytes'.now) × (gates.now ≡ gates'.now) × (vectors.now ≡ vectors'.now))
     (λ κs (_, (gates-after, (vectors-after, _))) f. (gates-after.now ≡ f.1.0.now) × (vectors-after.now ≡ f.1.1.0.now))
-read-job-one κs a b equal r s e f p q = (one told_read told_read-one r s p.0 cc, (same p.1.0 cc, same p.1.1 cc))
+read-job-one κs a b equal r s e f p q = (one (told job_values) told_job-one r s p.0 cc, (same p.1.0 cc, same p.1.1 cc))
 
 pub write_job_one : OneResultAndMemory write-job.Post
     (λ κs (lines, (classes, (gates, (vectors, (out, _))))) (lines', (classes', (gates', (vectors', (out', _))))).
     (lines ≡ lines') × (classes ≡ classes')
     × (gates.now ≡ gates'.now) × (vectors.now ≡ vectors'.now) × (out.now ≡ out'.now))
     (λ κs (_, (_, (_, (_, (out-after, _))))) f. out-after.now ≡ f.1.1.1.1.0.now)
-write_job_one κs a b equal r s e f p q = (one told_written told_written-one r s p.0 cc, same p.1 cc)
+write_job_one κs a b equal r s e f p q = (one told_word told_word-one r s p.0 cc, same p.1 cc)
 
 -- report_text
 pub report_one : OneResultAndMemory report.Post
     (λ κs (bytes, (out, _)) (bytes', (out', _)). (bytes.now ≡ bytes'.now) × (out.now ≡ out'.now))
     (λ κs (_, (out-after, _)) f. out-after.now ≡ f.1.0.now)
-report_one κs a b equal r s e f p q = (one told_reported told_reported-one r s p.0 cc, same p.1 cc)
+report_one κs a b equal r s e f p q = (one told_word told_word-one r s p.0 cc, same p.1 cc)

@@ -12,7 +12,7 @@ use Rattle.basics.specs.Lists.{All}
 use Rattle.basics.proofs.Tests.{by_test, or-false, or_neither, choice-false}
 use Rattle.basics.proofs.All.{all_map}
 use Rattle.refusals.specs.Tables.{first_of}
-use Rattle.refusals.specs.Checks.{fine}
+use Rattle.refusals.specs.Answers.{fine}
 use Rattle.refusals.specs.Places.{first_bad_from}
 use Rattle.refusals.proofs.Tables.{fine_row}
 use Rattle.refusals.proofs.Places.{none_bad}

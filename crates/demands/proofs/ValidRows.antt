@@ -16,7 +16,7 @@ use Rattle.basics.proofs.All.{all_map}
 use Rattle.refusals.specs.Tables.{Row, first_of}
 use Rattle.refusals.specs.Tables.Row.{refuse◌at◌when◌}
 use Rattle.refusals.specs.Tables.Told.{refused}
-use Rattle.refusals.specs.Checks.{fine}
+use Rattle.refusals.specs.Answers.{fine}
 use Rattle.refusals.proofs.Tables.{fine_row, fine-parts, fine_on}
 use Rattle.refusals.proofs.Places.{none_bad}
 use Rattle.circuit.specs.Gates.{gates_of}

@@ -6,6 +6,8 @@ use mathlib.Core.Logic.{◌≢◌}
 use mathlib.Core.List.{List, [], ◌∷◌, ◌++◌}
 use native.Mathlib.Omega.{arith}
 use lib.ListN.{length, drop}
+use Rattle.std.specs.Prelude.{Result, Ok, Err, Some, None}
+use Rattle.refusals.specs.Answers.{told}
 use Rattle.basics.specs.Lists.{up_from, keep, each, some}
 use Rattle.basics.specs.Sums.{sum_from}
 use Rattle.words.specs.Word.{bit, flip, force, all_on, all_ones, lines_on}
@@ -27,10 +29,9 @@ use Rattle.faults.specs.declared.Fault.{Fault}
 use Rattle.faults.specs.Classes.{fault_of, stuck_faults, class_faults, is_class}
 use Rattle.judge.specs.Judging.{caught_by_some, uncaught_of, verdict}
 use Rattle.judge.specs.Rules.{class_rows, judge_rows}
-use Rattle.judge.specs.Answers.{told_verdict}
+use Rattle.judge.specs.Answers.{verdict_values}
 use Rattle.judge.proofs.judge.Reads as judge
 use Rattle.judge.specs.declared.Verdict.{Verdict}
-use Rattle.judge.specs.declared.Verdict.TheVariants.{Complete, Left}
 use Rattle.dropping.specs.Dropping.{uncaught, dropped, words_of}
 use Rattle.dropping.specs.Rules.{bad_record, record_rows, drop_rows}
 use Rattle.dropping.proofs.drop.Reads as drop-call
@@ -41,8 +42,7 @@ use Rattle.testsets.specs.Rules.{compact_rows}
 use Rattle.number_bytes.specs.Bytes.{number_at, words_at}
 use Rattle.job.specs.Image.{lines_in, classes_in, gates_in, vectors_in, gate_words, vector_words}
 use Rattle.job.specs.Rules.{bad_classes, bad_sizes, read_rows, header_rows, content_rows}
-use Rattle.job.specs.Answers.{told_read}
-use Rattle.job.specs.declared.Read.TheVariants.{Refused}
+use Rattle.job.specs.Answers.{job_values}
 use Rattle.job.proofs.read_job.Reads as read-job
 use Rattle.demands.proofs.Answering.{Ended}
 use Rattle.proved_samples.specs.Sample.{sample_words, sample_job}
@@ -125,11 +125,11 @@ picks_another sample wrong =
 pub refuses_all_jobs : (call : Ended read-job.Post)
     → let (bytes, (gates, (vectors, _))) = call.inputs in
     (bytes.now ≡ sample_job) × (length gates.now ≡ 6) × (length vectors.now ≡ 3)
-    → (refusal : Refusal) → call.result ≡ Refused refusal → ⊥
+    → (refusal : Refusal) → call.result ≡ Err refusal → ⊥
 refuses_all_jobs call asked refusal wrong =
     let p = call.promised.0 in
-    let promise : told_read call.result ≡ promised_read = cc in
-    refused-answered (ap told_read (sym wrong) ∙ promise ∙ read_is)
+    let promise : told job_values call.result ≡ promised_read = cc in
+    refused-answered (ap (told job_values) (sym wrong) ∙ promise ∙ read_is)
 
 -- the judge is asked for the stuck-at faults of the sample circuit by a set
 abbrev JudgedBy : List ℕ → Ended judge.Post → Type 0
@@ -137,13 +137,14 @@ JudgedBy xs call =
     let (lines, (gates, (vectors, (class, _)))) = call.inputs in
     (lines ≡ 3) × (gates.now ≡ sample_words) × (vectors.now ≡ xs) × (class ≡ 1)
 
-judge_promise : (xs : List ℕ) (call : Ended judge.Post) → JudgedBy xs call → told_verdict call.result ≡ promised_verdict xs
+judge_promise : (xs : List ℕ) (call : Ended judge.Post) → JudgedBy xs call → told verdict_values call.result ≡ promised_verdict xs
 judge_promise xs call asked = let p = call.promised in cc
 
 -- 2. a judge that says complete to all: of the set 0, 7, whatever numbers it tells
-pub complete_to_all : (call : Ended judge.Post) → JudgedBy (0 ∷ 7 ∷ []) call → (number total : ℕ) → call.result ≡ Complete number total → ⊥
+pub complete_to_all : (call : Ended judge.Post) → JudgedBy (0 ∷ 7 ∷ []) call → (number total : ℕ)
+    → call.result ≡ Ok (record { caught = number; total = total; first = None }) → ⊥
 complete_to_all call asked number total wrong =
-    let told = ap told_verdict (sym wrong) ∙ judge_promise _ call asked ∙ verdicts_are.0 in
+    let answer = ap (told verdict_values) (sym wrong) ∙ judge_promise _ call asked ∙ verdicts_are.0 in
     let z : ◌≡◌ {A = ℕ} 0 1 = cc in
     omega arith
 
@@ -178,9 +179,9 @@ drops_nothing call asked wrong =
 
 -- 5. a judge that looks at the first vector only: what is right of the set 0 is wrong of the set 0, 3, 5
 pub first_vector_only : (one all : Ended judge.Post) → JudgedBy (0 ∷ []) one → JudgedBy (0 ∷ 3 ∷ 5 ∷ []) all
-    → (r : Verdict) → one.result ≡ r → all.result ≡ r → ⊥
+    → (r : Result Verdict Refusal) → one.result ≡ r → all.result ≡ r → ⊥
 first_vector_only one all asked-one asked-all r first wrong =
-    let same = sym verdicts_are.1 ∙ sym (judge_promise _ one asked-one) ∙ ap told_verdict (first ∙ sym wrong) ∙ judge_promise _ all asked-all
+    let same = sym verdicts_are.1 ∙ sym (judge_promise _ one asked-one) ∙ ap (told verdict_values) (first ∙ sym wrong) ∙ judge_promise _ all asked-all
     ∙ verdicts_are.2 in
     let z : ◌≡◌ {A = ℕ} 8 16 = cc in
     omega arith
@@ -191,7 +192,7 @@ repeats_itself call made rest wrong = picks_another (room_promise _ call made) w
 
 -- 7. a made-up number caught: of the set 0, 7 any number but 14
 pub made_up_number : (call : Ended judge.Post) → JudgedBy (0 ∷ 7 ∷ []) call
-    → (number total : ℕ) (first : Fault) → number ≢ 14 → call.result ≡ Left number total first → ⊥
+    → (number total : ℕ) (first : Fault) → number ≢ 14 → call.result ≡ Ok (record { caught = number; total = total; first = Some first }) → ⊥
 made_up_number call asked number total first other wrong =
-    let told = ap told_verdict (sym wrong) ∙ judge_promise _ call asked ∙ verdicts_are.0 in
+    let answer = ap (told verdict_values) (sym wrong) ∙ judge_promise _ call asked ∙ verdicts_are.0 in
     other cc

@@ -1,198 +1,122 @@
 -- Laws of dropping: where the loop over the records stands, and how a turn goes on.
-use Prim.Native.Nat.{ℕ, zero, suc, ◌+◌, ◌-◌, ◌≤◌, ◌<◌}
-use mathlib.Core.Path.{◌≡◌, refl, sym, ap, ◌∙◌, subst}
-use mathlib.Core.Bool.{Bool, true, false, not}
-use mathlib.Core.List.{List, [], ◌∷◌, ◌++◌, append_assoc, append-nil}
-use native.Mathlib.Omega.{arith}
-use lib.ListN.{length, get_or, set, replicate, length-append, length-replicate}
-use lib.Seq.{set_at, get_or_at, append_snoc}
-use Rattle.basics.specs.Choice.{choice, count}
+use Rattle.std.specs.Prelude.{ℕ, zero, suc, ◌+◌, ◌-◌, ◌≤◌, ◌<◌, ◌≡◌, refl, true, false, not}
+use Rattle.std.specs.Prelude.{List, [], ◌∷◌, ◌++◌, length, get_or, set, take, drop, replicate}
+use Rattle.std.proofs.Common.{sym, ap, ap₂, ◌∙◌, arith}
+use Rattle.std.proofs.lemmas.List.{take_more, length-take, length-drop, append_assoc, append-nil, length-append, length-replicate}
+use Rattle.std.proofs.Math.Seq.{set_at, get_or_at, append_snoc, drop-cons, take-length, drop-length}
+use Rattle.std.proofs.Math.Numerals.{add-one}
+use Rattle.basics.specs.Choice.{choice}
 use Rattle.basics.specs.Lists.{keep}
-use Rattle.basics.proofs.Tests.{choice-true, choice-false}
+use Rattle.basics.proofs.All.{all_at}
+use Rattle.basics.proofs.Lists.{keep-le}
+use Rattle.basics.proofs.ListMore.{keep_append}
 use Rattle.circuit.specs.declared.Gate.{Gate}
 use Rattle.simulator.specs.Faulty.{caught}
-use Rattle.faults.specs.Rules.{is_fault}
 use Rattle.faults.specs.Records.{no_fault}
+use Rattle.faults.specs.Rules.{is_fault}
 use Rattle.faults.specs.declared.Fault.{Fault}
 use Rattle.dropping.specs.Dropping.{uncaught, dropped}
-use Rattle.dropping.specs.Records.{AllFaults, stays_at, taken}
+use Rattle.dropping.specs.Records.{AllFaults}
 
--- ---- blank records between two lists
+-- a record that is all zero is the blank one
+pub blank_is : (f : Fault) → (f.class ≡ 0) × ((f.place ≡ 0) × ((f.line ≡ 0) × (f.value ≡ 0))) → f ≡ no_fault
+unfolding no_fault
+blank_is f (c, (p, (l, v))) = λ i. record { class = c i; place = p i; line = l i; value = v i }
 
+-- one blank record more, before what follows
 blanks_one : (h : ℕ) (r : List Fault) → replicate h no_fault ++ (no_fault ∷ r) ≡ replicate (suc h) no_fault ++ r
 blanks_one zero r = refl
 blanks_one (suc h) r = ap (λ l. no_fault ∷ l) (blanks_one h r)
 
-module _ (front : List Fault) (h : ℕ) (f : Fault) (r : List Fault) where
-  ahead_is : length (front ++ replicate h no_fault) ≡ length front + h
-  ahead_is = length-append front (replicate h no_fault) ∙ ap (λ k. length front + k) (length-replicate h no_fault)
+-- what stays of some records, so many blank ones, and others
+abbrev held : List Fault → ℕ → List Fault → List Fault
+held front blanks rest = front ++ (replicate blanks no_fault ++ rest)
 
-  read_at : get_or (front ++ (replicate h no_fault ++ (f ∷ r))) (length front + h) no_fault ≡ f
-  read_at = rw (← append_assoc front (replicate h no_fault) (f ∷ r)) (get_or_at (front ++ replicate h no_fault) f r no_fault (length front + h) ahead_is)
+-- before record i the list holds what stays of the records before it, blank records, and the records from it on
+pub record Going (gs : List Gate) (x : ℕ) (fs list : List Fault) (left i : ℕ) : Type 0 where
+  pub left_is : left ≡ length (uncaught gs x (take i fs))
+  pub list_is : list ≡ held (uncaught gs x (take i fs)) (i - left) (drop i fs)
 
-  blank_at : set (front ++ (replicate h no_fault ++ (f ∷ r))) (length front + h) no_fault ≡ front ++ (replicate (suc h) no_fault ++ r)
-  blank_at =
-      rw (← append_assoc front (replicate h no_fault) (f ∷ r))
-      (set_at (front ++ replicate h no_fault) f r no_fault (length front + h) ahead_is ∙ append_assoc front (replicate h no_fault)
-      (no_fault ∷ r) ∙ ap (λ l. front ++ l) (blanks_one h r))
+pub start : (gs : List Gate) (x : ℕ) (fs : List Fault) → Going gs x fs fs 0 0
+unfolding uncaught keep
+start gs x fs = record { left_is = refl; list_is = refl }
 
-  put_at : set (front ++ (replicate (suc h) no_fault ++ r)) (length front) f ≡ (front ++ (f ∷ [])) ++ (replicate h no_fault ++ r)
-  put_at = set_at front no_fault (replicate h no_fault ++ r) f (length front) refl ∙ sym (append_snoc front f (replicate h no_fault ++ r))
+module _ {gs : List Gate} {x : ℕ} {fs list : List Fault} {left i : ℕ} (g : Going gs x fs list left i) where
+  abbrev front : List Fault
+  front = uncaught gs x (take i fs)
 
--- ---- what is left
-
-module _ (gs : List Gate) (x : ℕ) where
-  uncaught_on : (f : Fault) (fs : List Fault) (stays : Bool) → not (caught gs f x) ≡ stays → uncaught gs x (f ∷ fs) ≡ choice stays
-      (f ∷ uncaught gs x fs) (uncaught gs x fs)
-  unfolding uncaught keep
-  uncaught_on f fs stays e = ap (λ b. choice b (f ∷ uncaught gs x fs) (uncaught gs x fs)) e
-
-  -- one turn, by what the calls in it give: the record's test, and the list where the record stays and where it is caught
-  pub stays_is : (fs : List Fault) (ahead : ℕ) (f : Fault) (b : Bool) → f ≡ get_or fs ahead no_fault → b ≡ not (caught gs f x)
-      → stays_at gs x fs ahead ≡ b
-  unfolding stays_at
-  stays_is fs ahead f b e s = ap (λ y. not (caught gs y x)) (sym e) ∙ sym s
-
-module _ (fs : List Fault) (ahead left : ℕ) (f b : Fault) (b-is : b ≡ no_fault) where
-  pub taken-caught : (stays : Bool) → stays ≡ false → set fs ahead b ≡ taken stays fs ahead left
-  taken-caught stays e = ap (set fs ahead) b-is ∙ sym (choice-false e _ _)
-
-  pub taken_stays : (stays : Bool) → f ≡ get_or fs ahead no_fault → stays ≡ true → set (set fs ahead b) left f ≡ taken stays fs ahead left
-  taken_stays stays f_is e = ap (λ y. set (set fs ahead y) left f) b-is ∙ ap (set (set fs ahead no_fault) left) f_is ∙ sym (choice-true e _ _)
-
--- ---- the loop
-
--- the records that stay so far, blank ones, and those that are still to be seen
-pub record Going (n : ℕ) (gs : List Gate) (x : ℕ) (fs list : List Fault) (left i : ℕ) : Type 0 where
-  pub front : List Fault
-  pub holes : ℕ
-  pub rest : List Fault
-  pub is : list ≡ front ++ (replicate holes no_fault ++ rest)
-  pub so_far : uncaught gs x fs ≡ front ++ uncaught gs x rest
-  pub left_is : left ≡ length front
-  pub i_is : i ≡ length front + holes
-  pub size : length fs ≡ length front + holes + length rest
-  pub faults : AllFaults n gs rest
-
-pub start : (n : ℕ) (gs : List Gate) (x : ℕ) (fs : List Fault) → AllFaults n gs fs → Going n gs x fs fs 0 0
-start n gs x fs w = record { front = []; holes = 0; rest = fs; is = refl; so_far = refl; left_is = refl; i_is = refl; size = omega arith; faults = w }
-
-module _ {n : ℕ} {gs : List Gate} {x : ℕ} {fs list : List Fault} {left i : ℕ} (g : Going n gs x fs list left i) where
-  pub long : length list ≡ length fs
-  long =
-      omega (
-        arith,
-        ap length g.is,
-        length-append g.front (replicate g.holes no_fault ++ g.rest),
-        length-append (replicate g.holes no_fault) g.rest,
-        length-replicate g.holes no_fault,
-        g.size,
-      )
+  abbrev blanks : List Fault
+  blanks = replicate (i - left) no_fault
 
   pub below : left ≤ i
-  below = omega (arith, g.left_is, g.i_is)
+  unfolding uncaught
+  below = omega (arith, g.left_is, keep-le (λ f. not (caught gs f x)) (take i fs), length-take i fs)
 
-  first : (l : List Fault) → 0 < length l → (f : Fault) × (r : List Fault) × (l ≡ f ∷ r)
-  first [] h = absurd (omega arith)
-  first (f ∷ r) h = (f, r, refl)
+  ahead_is : length (front ++ blanks) ≡ i
+  ahead_is = omega (arith, below, g.left_is, length-append front blanks, length-replicate (i - left) no_fault)
 
-  -- the record at i is the first that is still to be seen
-  here : i < length list → (f : Fault) × (r : List Fault) × (g.rest ≡ f ∷ r)
-  here h = first g.rest (omega (arith, long, g.size, g.i_is))
+  parts : list ≡ (front ++ blanks) ++ drop i fs
+  parts = g.list_is ∙ sym (append_assoc front blanks (drop i fs))
 
-  module _ (h : i < length list) where
+  pub long : i ≤ length fs → length list ≡ length fs
+  long h = omega (arith, ap length parts, ahead_is, length-append (front ++ blanks) (drop i fs), length-drop i fs)
+
+  -- after the last record
+  pub done_left : i ≡ length fs → left ≡ length (uncaught gs x fs)
+  done_left e = g.left_is ∙ ap (λ k. length (uncaught gs x (take k fs))) e ∙ ap (λ l. length (uncaught gs x l)) (take-length fs)
+
+  pub done_list : i ≡ length fs → list ≡ dropped gs x fs
+  unfolding dropped
+  done_list e =
+      let all : front ≡ uncaught gs x fs = ap (λ k. uncaught gs x (take k fs)) e ∙ ap (uncaught gs x) (take-length fs) in
+      let none : drop i fs ≡ [] = ap (λ k. drop k fs) e ∙ drop-length fs in
+      let holes : i - left ≡ length fs - length (uncaught gs x fs) = omega (arith, done_left e) in
+      g.list_is ∙ ap (held front (i - left)) none ∙ ap (λ l. front ++ l) (append-nil blanks) ∙ ap₂ (λ u k. u ++ replicate k no_fault) all holes
+
+  -- a turn: the record here is still the old one, and it is caught, or stays
+  module _ (h : i < length fs) where
     abbrev f : Fault
-    f = (here h).0
+    f = get_or fs i no_fault
 
-    abbrev r : List Fault
-    r = (here h).1
+    abbrev rest : List Fault
+    rest = drop (i + 1) fs
 
-    list_is : list ≡ g.front ++ (replicate g.holes no_fault ++ (f ∷ r))
-    list_is = g.is ∙ ap (λ l. g.front ++ (replicate g.holes no_fault ++ l)) (here h).2
+    parts_here : list ≡ (front ++ blanks) ++ (f ∷ rest)
+    parts_here = parts ∙ ap (λ l. (front ++ blanks) ++ l) (drop-cons fs i no_fault h ∙ ap (λ k. f ∷ drop k fs) (sym (add-one i)))
 
-    f_is : get_or list i no_fault ≡ f
-    f_is = ap (λ l. get_or l i no_fault) list_is ∙ ap (λ k. get_or (g.front ++ (replicate g.holes no_fault ++ (f ∷ r))) k no_fault) g.i_is
-        ∙ read_at g.front g.holes f r
+    here : get_or list i no_fault ≡ f
+    here = ap (λ l. get_or l i no_fault) parts_here ∙ get_or_at (front ++ blanks) f rest no_fault i ahead_is
 
-    blanked : set list i no_fault ≡ g.front ++ (replicate (suc g.holes) no_fault ++ r)
-    blanked = ap (λ l. set l i no_fault) list_is ∙ ap (λ k. set (g.front ++ (replicate g.holes no_fault ++ (f ∷ r))) k no_fault) g.i_is
-        ∙ blank_at g.front g.holes f r
+    blanked : set list i no_fault ≡ held front (suc (i - left)) rest
+    blanked =
+        ap (λ l. set l i no_fault) parts_here ∙ set_at (front ++ blanks) f rest no_fault i ahead_is
+        ∙ append_assoc front blanks (no_fault ∷ rest) ∙ ap (λ l. front ++ l) (blanks_one (i - left) rest)
 
-    size_now : length fs ≡ length g.front + g.holes + suc (length r)
-    size_now = g.size ∙ ap (λ l. length g.front + g.holes + length l) (here h).2
-
-    faults_now : AllFaults n gs (f ∷ r)
-    faults_now = subst (AllFaults n gs) (here h).2 g.faults
-
-    pub fault_here : is_fault n gs (get_or list i no_fault) ≡ true
-    fault_here = ap (is_fault n gs) f_is ∙ faults_now.0
-
-    seen : (stays : Bool) → stays_at gs x list i ≡ stays → uncaught gs x g.rest ≡ choice stays (f ∷ uncaught gs x r) (uncaught gs x r)
-    unfolding stays_at
-    seen stays e = ap (uncaught gs x) (here h).2 ∙ uncaught_on gs x f r stays (ap (λ y. not (caught gs y x)) (sym f_is) ∙ e)
-
-    -- a turn: the record is caught, or stays
-    pub on : (stays : Bool) → stays_at gs x list i ≡ stays → Going n gs x fs (taken stays list i left) (left + count stays) (i + 1)
-    on false e = record {
-      front = g.front;
-      holes = suc g.holes;
-      rest = r;
-      is = blanked;
-      so_far = g.so_far ∙ ap (λ l. g.front ++ l) (seen false e);
-      left_is = omega (arith, g.left_is);
-      i_is = omega (arith, g.i_is);
-      size = omega (arith, size_now);
-      faults = faults_now.1;
-    }
-    on true e = record {
-      front = g.front ++ (f ∷ []);
-      holes = g.holes;
-      rest = r;
-      is = ap (λ y. set (set list i no_fault) left y) f_is ∙ ap (λ l. set l left f) blanked ∙ ap
-          (λ k. set (g.front ++ (replicate (suc g.holes) no_fault ++ r)) k f) g.left_is ∙ put_at g.front g.holes f r;
-      so_far = g.so_far ∙ ap (λ l. g.front ++ l) (seen true e) ∙ sym (append_snoc g.front f (uncaught gs x r));
-      left_is = omega (arith, g.left_is, length-append g.front (f ∷ []));
-      i_is = omega (arith, g.i_is, length-append g.front (f ∷ []));
-      size = omega (arith, size_now, length-append g.front (f ∷ []));
-      faults = faults_now.1;
-    }
-
-  -- a list and a number that are those
-  pub as_is : {list' : List Fault} {left' : ℕ} → list' ≡ list → left' ≡ left → Going n gs x fs list' left' i
-  as_is e k = record {
-    front = g.front;
-    holes = g.holes;
-    rest = g.rest;
-    is = e ∙ g.is;
-    so_far = g.so_far;
-    left_is = k ∙ g.left_is;
-    i_is = g.i_is;
-    size = g.size;
-    faults = g.faults;
-  }
-
-  -- the end: nothing is still to be seen
-  none : (l : List Fault) → length l ≤ 0 → l ≡ []
-  none [] h = refl
-  none (y ∷ l) h = absurd (omega arith)
-
-  module _ (h : length list ≤ i) where
-    rest_none : g.rest ≡ []
-    rest_none = none g.rest (omega (arith, long, g.size, g.i_is))
-
-    all : uncaught gs x fs ≡ g.front
+    more : uncaught gs x (take (i + 1) fs) ≡ front ++ choice (not (caught gs f x)) (f ∷ []) []
     unfolding uncaught keep
-    all = g.so_far ∙ ap (λ l. g.front ++ uncaught gs x l) rest_none ∙ append-nil g.front
+    more = ap (uncaught gs x) (take_more fs i no_fault h) ∙ keep_append (λ y. not (caught gs y x)) (take i fs) (f ∷ [])
 
-    pub done_number : left ≡ length (uncaught gs x fs)
-    done_number = g.left_is ∙ sym (ap length all)
+    pub fault_here : {now : Fault} (n : ℕ) → now ≡ get_or list i no_fault → AllFaults n gs fs → is_fault n gs now ≡ true
+    fault_here n read w = ap (is_fault n gs) (read ∙ here) ∙ all_at (λ y. is_fault n gs y ≡ true) fs i no_fault h w
 
-    holes_is : g.holes ≡ length fs - length (uncaught gs x fs)
-    holes_is = omega (arith, g.size, ap length rest_none, ap length all)
+    -- what the turn read, and what the list and the number are after it
+    module _ {now : Fault} {list' : List Fault} {left' : ℕ} (read : now ≡ get_or list i no_fault) where
+      pub caught_turn : caught gs now x ≡ true → list' ≡ set list i no_fault → left' ≡ left → Going gs x fs list' left' (i + 1)
+      caught_turn e l k =
+          let caught_here : caught gs f x ≡ true = ap (λ y. caught gs y x) (sym (read ∙ here)) ∙ e in
+          let same : front ≡ uncaught gs x (take (i + 1) fs) = sym (more ∙ rw caught_here (append-nil front)) in
+          let holes : suc (i - left) ≡ i + 1 - left' = omega (arith, below, k) in
+          record { left_is = k ∙ g.left_is ∙ ap length same; list_is = l ∙ blanked ∙ ap₂ (λ u n. held u n rest) same holes }
 
-    pub done_list : list ≡ dropped gs x fs
-    unfolding dropped
-    done_list =
-        g.is ∙ ap (λ l. g.front ++ (replicate g.holes no_fault ++ l)) rest_none ∙ ap (λ l. g.front ++ l)
-        (append-nil (replicate g.holes no_fault))
-        ∙ ap (λ l. l ++ replicate g.holes no_fault) (sym all) ∙ ap (λ k. uncaught gs x fs ++ replicate k no_fault) holes_is
+      pub stays_turn : caught gs now x ≡ false → list' ≡ set (set list i no_fault) left now → left' ≡ left + 1 → Going gs x fs list' left' (i + 1)
+      stays_turn e l k =
+          let missed_here : caught gs f x ≡ false = ap (λ y. caught gs y x) (sym (read ∙ here)) ∙ e in
+          let longer : front ++ (f ∷ []) ≡ uncaught gs x (take (i + 1) fs) = sym (more ∙ rw missed_here refl) in
+          let holes : i - left ≡ i + 1 - left' = omega (arith, k) in
+          record {
+            left_is = omega (arith, k, g.left_is, ap length longer, length-append front (f ∷ []));
+            list_is =
+                l ∙ ap (λ y. set (set list i no_fault) left y) (read ∙ here) ∙ ap (λ l. set l left f) blanked
+                ∙ set_at front no_fault (blanks ++ rest) f left (sym g.left_is)
+                ∙ sym (append_snoc front f (blanks ++ rest)) ∙ ap₂ (λ u n. held u n rest) longer holes;
+          }

@@ -1,73 +1,50 @@
 // The rules of dropping.
-ghost use Rattle.std.specs.Prelude.{◌≡◌, false};
+ghost use Rattle.std.specs.Prelude.{◌≡◌, ◌++◌, IfOk};
 ghost use Rattle.refusals.specs.Tables.{first_of};
 ghost use Rattle.refusals.specs.Places.{first_bad};
-ghost use Rattle.refusals.specs.Checks.{fine, found};
+ghost use Rattle.refusals.specs.Answers.{fine, found};
 ghost use Rattle.circuit.specs.Gates.{gates_of};
-ghost use Rattle.circuit.specs.Sound.{Sound};
-ghost use Rattle.faults.specs.Records.{first_bad_record};
-ghost use Rattle.dropping.specs.Rules.{bad_record, record_rows, drop_rows};
+ghost use Rattle.circuit.specs.Rules.{circuit_rows, vector_rows};
+ghost use Rattle.circuit.specs.Checked.{gates_in, Has};
+ghost use Rattle.dropping.specs.Rules.{bad_record, record_rows};
 
-use crate::is_wrong;
+use crate::entries::Entry;
+use circuit::checked::Circuit;
 use circuit::rules::check_vector;
-use faults::Fault;
-use faults::records::record_at;
 use faults::rules::check_fault;
-use refusals::Checked;
+use refusals::{Refusal, refuse_when};
 
-// Whether a record is no fault of the circuit.
-pub fn bad_record(lines: u32, gates: &[u32], fault: Fault) -> bool
-    requires { Sound lines gates.now }
-    ensures { result ≡ bad_record lines (gates_of gates.now) fault }
+// Rule 9 of a list: the first record that is no fault of the circuit; numbers left over are one more.
+pub fn check_records<E: Entry>(circuit: &Circuit, list: &[E]) -> Result<(), Refusal>
+    ensures { found result ≡ first_of
+        (record_rows (first_bad (bad_record circuit.now.lines (gates_in circuit.now)) (E.is_over list.now) (E.records list.now))) fine }
 {
-    is_wrong(check_fault(lines, gates, fault))
-}
-
-// The place of the first bad record of a plain list, and 0 where none is bad; numbers left over are one more bad record.
-pub fn first_bad_record(lines: u32, gates: &[u32], list: &[u32]) -> usize
-    requires { Sound lines gates.now }
-    ensures { result ≡ first_bad_record (bad_record lines (gates_of gates.now)) list.now }
-{
-    let whole = list.len() / 4;
-    let mut i = 0;
-    while i < whole {
-        if bad_record(lines, gates, record_at(list, i)) {
-            return i + 1;
-        }
-        i += 1;
-    }
-    if list.len() % 4 == 0 { 0 } else { whole + 1 }
-}
-
-// The place of the first bad record of a slice, and 0 where none is bad.
-pub fn first_bad_of(list: &[Fault], lines: u32, gates: &[u32]) -> usize
-    requires { Sound lines gates.now }
-    ensures { result ≡ first_bad (bad_record lines (gates_of gates.now)) false list.now }
-{
-    let mut i: usize = 0;
-    while i < list.len() {
-        let fault = list[i];
-        i += 1;
-        if bad_record(lines, gates, fault) {
-            return i;
+    let whole = E::count(list);
+    for i in 0..whole {
+        let bad = check_fault(circuit, E::read(list, i)).is_err();
+        if bad {
+            return Err(Refusal::Fault(refusals::in_word(i + 1)));
         }
     }
-    0
+    refuse_when(
+        E::is_over(list),
+        Refusal::Fault(refusals::in_word(whole + 1)),
+    )
 }
 
-// Rule 9 of a list whose first bad record has this place.
-pub fn check_records(bad: usize) -> Checked
-    ensures { found result ≡ first_of (record_rows bad) fine }
+// The rules of a circuit, a vector and a list.
+#[tactic(auto, using(refusals::proofs::Tables::refused_on, refusals::proofs::Tables::fine_on))]
+pub fn check_drop<'a, E: Entry>(
+    lines: u32,
+    gates: &'a [u32],
+    vector: u32,
+    list: &[E],
+) -> Result<Circuit<'a>, Refusal>
+    ensures rules { found result ≡ first_of ((circuit_rows lines gates.now ++ vector_rows lines vector)
+        ++ record_rows (first_bad (bad_record lines (gates_of gates.now)) (E.is_over list.now) (E.records list.now))) fine }
+    ensures circuit { IfOk result (Has lines gates.now) }
 {
-    refusals::unless(bad == 0, 9, refusals::in_word(bad))
-}
-
-// The rules of a circuit, a vector and a plain list.
-pub fn check_drop(lines: u32, gates: &[u32], vector: u32, list: &[u32]) -> Checked
-    ensures { found result ≡ first_of (drop_rows lines gates.now vector list.now) fine }
-{
-    match check_vector(lines, gates, vector) {
-        Checked::Wrong(refusal) => Checked::Wrong(refusal),
-        Checked::Fine => check_records(first_bad_record(lines, gates, list)),
-    }
+    let circuit = check_vector(lines, gates, vector)?;
+    check_records(&circuit, list)?;
+    Ok(circuit)
 }

@@ -1,3 +1,2 @@
 pub mod TestLaws
 pub mod RuleLaws
-pub mod AnswerLaws

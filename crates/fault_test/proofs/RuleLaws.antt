@@ -1,10 +1,7 @@
 -- What a fault is that breaks no rule of the call.
-use Prim.Native.Nat.{ℕ}
-use mathlib.Core.Path.{◌≡◌}
-use mathlib.Core.Bool.{true}
-use mathlib.Core.List.{List}
+use Rattle.std.proofs.Common.{ℕ, ◌≡◌, true, List}
 use Rattle.refusals.specs.Tables.{first_of}
-use Rattle.refusals.specs.Checks.{fine}
+use Rattle.refusals.specs.Answers.{fine}
 use Rattle.refusals.proofs.Tables.{fine-parts}
 use Rattle.circuit.specs.Gates.{gates_of}
 use Rattle.circuit.specs.Rules.{circuit_rows}

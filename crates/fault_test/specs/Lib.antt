@@ -1,4 +1,3 @@
 pub mod Tests
 pub mod Rules
-pub mod Answers
 pub mod Promises

@@ -1,57 +1,58 @@
-// The test for a fault that a sound circuit is known to have.
-ghost use Rattle.std.specs.Prelude.{◌≡◌, true, ◌<◌, ◌≤◌};
-ghost use Rattle.circuit.specs.Limits.{most_lines};
-ghost use Rattle.circuit.specs.Gates.{gates_of};
-ghost use Rattle.circuit.specs.Sound.{Sound};
-ghost use Rattle.faults.specs.Rules.{is_fault};
-ghost use Rattle.fault_test.specs.Tests.{line_at_zero, test_state, test_for};
+// The test for a fault that a circuit is known to have.
+ghost use Rattle.std.specs.Prelude.{◌≡◌, ◌≤◌, length};
+ghost use Rattle.circuit.specs.Checked.{gates_in};
+ghost use Rattle.fault_test.specs.Tests.{test_level, line_at_zero, test_state, test_for};
 
-use circuit::checked::run_backward;
 use circuit::numbers;
-use faults::{Fault, places};
+use circuit::numbers::LevelNumber;
+use faults::checked::KnownFault;
+use faults::classes::{Class, GateClass};
+use faults::places;
 use words;
 
 // Whether the test for a fault wants a line at 0.
-fn line_at_zero(fault: Fault) -> bool
-    ensures { result ≡ line_at_zero fault }
+#[tactic(auto, unfolding(crate::specs::Tests::line_at_zero))]
+fn line_at_zero(known: &KnownFault) -> bool
+    ensures { result ≡ line_at_zero known.now.fault }
 {
-    let class = fault.class;
-    if class == 1 {
-        return fault.value == 1;
+    match known.class() {
+        Class::StuckAt => known.fault.value == 1,
+        Class::AtGate(GateClass::MissingGate) => false,
+        Class::AtGate(GateClass::MissingControl) => true,
+        Class::AtGate(GateClass::ExtraControl) => true,
     }
-    if class == 3 {
-        return true;
-    }
-    class == 4
 }
 
 // All lines 1, save the one that the test for a fault wants at 0.
-fn test_state(lines: u32, fault: Fault) -> u32
-    requires { (lines ≤ most_lines) × (fault.line < most_lines) }
-    ensures { result ≡ test_state lines fault }
+#[tactic(auto, unfolding(crate::specs::Tests::test_state))]
+fn test_state(known: &KnownFault) -> u32
+    ensures { result ≡ test_state known.now.circuit.lines known.now.fault }
 {
-    let ones = words::checked::all_ones(lines);
-    if line_at_zero(fault) {
-        words::checked::force(ones, fault.line, 0)
+    let ones = words::checked::all_ones(known.circuit.lines);
+    if line_at_zero(known) {
+        words::checked::force(ones, known.fault.line, 0)
     } else {
         ones
     }
 }
 
-// The test for a fault, worked backward from the level where it shows.
-pub fn test_for(lines: u32, gates: &[u32], fault: Fault) -> u32
-    requires sound { Sound lines gates.now }
-    requires fault_value { is_fault lines (gates_of gates.now) fault ≡ true }
-    ensures { result ≡ test_for lines (gates_of gates.now) fault }
+// The level where the fault shows: its own, or the one that its gate reads.
+#[tactic(auto, unfolding(crate::specs::Tests::test_level))]
+fn test_level(known: &KnownFault) -> LevelNumber
+    ensures level { result.0 ≡ test_level known.now.fault }
+    ensures level_in_bounds { result.0 ≤ length (gates_in known.now.circuit) }
 {
-    let state = test_state(lines, fault);
-    if fault.class == 1 {
-        return run_backward(lines, gates, places::level_of(fault), state);
+    match known.class() {
+        Class::StuckAt => places::level_of(known.fault),
+        Class::AtGate(_) => numbers::level_read(places::gate_of(known.fault)),
     }
-    run_backward(
-        lines,
-        gates,
-        numbers::level_read(places::gate_of(fault)),
-        state,
-    )
+}
+
+// The test for a fault, worked backward from the level where it shows.
+#[tactic(auto, unfolding(crate::specs::Tests::test_for))]
+pub fn test_for(known: &KnownFault) -> u32
+    ensures { result ≡ test_for known.now.circuit.lines (gates_in known.now.circuit) known.now.fault }
+{
+    let state = test_state(known);
+    known.circuit.run_backward(test_level(known), state)
 }

@@ -2,28 +2,20 @@
 #![tactic(auto)]
 
 ghost use Rattle.std.specs.Prelude.{◌≡◌};
-ghost use Rattle.fault_test.specs.Answers.{told_test};
+ghost use Rattle.refusals.specs.Answers.{told_word};
 ghost use Rattle.fault_test.specs.Promises.{test_for_tells};
 
 use faults::Fault;
-use refusals::{Checked, Refusal};
+use refusals::Refusal;
 
 mod checked;
 mod rules;
 
-// A vector that catches a fault.
-#[derive(Clone, Copy)]
-pub enum Test {
-    Vector(u32),
-    Refused(Refusal),
-}
-
 // The test for one fault: a vector that catches it.
-pub fn test_for(lines: u32, gates: &[u32], fault: Fault) -> Test
-    ensures { told_test result ≡ test_for_tells lines gates.now fault }
+#[tactic(auto, using(refusals::proofs::Tables::calls))]
+pub fn test_for(lines: u32, gates: &[u32], fault: Fault) -> Result<u32, Refusal>
+    ensures { told_word result ≡ test_for_tells lines gates.now fault }
 {
-    match rules::check_test(lines, gates, fault) {
-        Checked::Wrong(refusal) => Test::Refused(refusal),
-        Checked::Fine => Test::Vector(checked::test_for(lines, gates, fault)),
-    }
+    let known = rules::check_test(lines, gates, fault)?;
+    Ok(checked::test_for(&known))
 }

@@ -1,9 +1,10 @@
 -- Laws of the rules of faults: what a fault that breaks none is, class by class.
 use Prim.Native.Nat.{ℕ, ◌≤◌, ◌<◌}
-use mathlib.Core.Path.{◌≡◌, sym, ap, ◌∙◌}
+use mathlib.Core.Path.{◌≡◌, refl, sym, ◌∙◌}
+use Rattle.std.specs.Prelude.{Result, Ok, Err}
 use mathlib.Core.Logic.{◌≢◌}
-use mathlib.Core.Bool.{Bool, true, false, not, true≢false}
-use mathlib.Core.List.{List, [], ◌∷◌}
+use mathlib.Core.Bool.{true, false, not, true≢false}
+use mathlib.Core.List.{List}
 use native.Mathlib.Omega.{arith}
 use lib.ListN.{length}
 use lib.Dec.{eqb, ltb, leb}
@@ -11,9 +12,10 @@ use borrow.Author.Tests.{ltb-true, leb-true, eqb-true, eq-eqb, ne_eqb, le-leb, n
 use Rattle.basics.proofs.Tests.{by_test, and_both, and-true, choice-true, choice-false}
 use Rattle.words.specs.Word.{bit}
 use Rattle.refusals.specs.Tables.{first_of}
-use Rattle.refusals.specs.Tables.Row.{refuse◌at◌when◌}
 use Rattle.refusals.specs.Tables.Told.{refused}
-use Rattle.refusals.specs.Checks.{fine}
+use Rattle.refusals.specs.Answers.{fine, number_of, place_of}
+use Rattle.refusals.specs.declared.Refusal.{Refusal}
+use Rattle.refusals.specs.declared.Refusal.TheVariants as refusal
 use Rattle.refusals.proofs.Tables.{fine_row}
 use Rattle.circuit.specs.Gates.{gates_of, gate_at}
 use Rattle.circuit.specs.Controls.{is_control, is_other}
@@ -21,6 +23,12 @@ use Rattle.circuit.specs.declared.Gate.{Gate}
 use Rattle.faults.specs.Sites.{sites}
 use Rattle.faults.specs.Rules.{is_stuck_at, is_gate, is_missing_gate, is_missing_control, is_extra_control, is_fault, fault_rows}
 use Rattle.faults.specs.Stuck.{StuckOk}
+use Rattle.faults.specs.Kinds.{class_number, class_of}
+use Rattle.faults.specs.declared.classes.Class.{Class}
+use Rattle.faults.specs.declared.classes.Class.TheVariants.{StuckAt}
+use Rattle.circuit.specs.Sound.{Sound}
+use Rattle.circuit.proofs.ControlLaws.{control_above}
+use Rattle.circuit.proofs.RuleLaws.{gate_ok}
 use Rattle.faults.specs.declared.Fault.{Fault}
 use Rattle.circuit.proofs.LineLaws.{untouched}
 use Rattle.faults.proofs.SiteLaws.{site_line}
@@ -118,16 +126,46 @@ module _ (n : ℕ) (gs : List Gate) (f : Fault) where
       let w = and_both (ltb f.line n) _ (and_both (is_gate gs f.place) _ t).1 in
       eqb-true f.value 0 (and_both (is_other (gate_at gs f.place) f.line) _ w.1).1
 
--- ---- rule 9 by the test of the class
+-- a line that is none of the circuit's is no control of a gate
+pub control_beyond : (n : ℕ) (words : List ℕ) (i j : ℕ) → Sound n words → is_gate (gates_of words) i ≡ true → n ≤ j
+    → is_control (gate_at (gates_of words) i) j ≡ false
+control_beyond n words i j s g h =
+    let place = gate_in (gates_of words) i g in
+    control_above n (gate_at (gates_of words) i) j (gate_ok n words i s place.0 place.1) h
 
-pub nine : (n : ℕ) (words : List ℕ) (f : Fault) (holds : Bool) → holds ≡ is_fault n (gates_of words) f
-    → first_of (refuse 9 at 1 when not holds ∷ []) fine ≡ first_of (fault_rows n words f) fine
-unfolding fault_rows
-nine n words f holds e = ap (λ b. first_of (refuse 9 at 1 when not b ∷ []) fine) e
+-- ---- the class of a number
 
-pub nine_none : (n : ℕ) (words : List ℕ) (f : Fault) → is_fault n (gates_of words) f ≡ false → refused 9 1 ≡ first_of (fault_rows n words f) fine
+ok_err {ℓ} : {P : Type ℓ} {class : Class} {r : Refusal} → Ok class ≡ Err r → P
+ok_err e = let z : ◌≡◌ {A = ℕ} 0 1 = cc in absurd (omega arith)
+
+ok_one : {a b : Class} → ◌≡◌ {A = Result Class Refusal} (Ok a) (Ok b) → a ≡ b
+ok_one e = cc
+
+err_one : {p q : Refusal} → ◌≡◌ {A = Result Class Refusal} (Err p) (Err q) → p ≡ q
+err_one e = cc
+
+pub class_known : (k : ℕ) (class : Class) → Ok class ≡ class_of k → k ≡ class_number class
+class_known k class e =
+    by_test (eqb k 1) (λ t. let is : class ≡ StuckAt = ok_one (e ∙ choice-true t _ _) in rw is (eqb-true k 1 t)) (λ a.
+    by_test (eqb k 2) (λ t. let is = ok_one (e ∙ choice-false a _ _ ∙ choice-true t _ _) in rw is (eqb-true k 2 t)) (λ b.
+    by_test (eqb k 3) (λ t. let is = ok_one (e ∙ choice-false a _ _ ∙ choice-false b _ _ ∙ choice-true t _ _) in rw is (eqb-true k 3 t)) (λ c.
+    by_test (eqb k 4) (λ t. let is = ok_one (e ∙ choice-false a _ _ ∙ choice-false b _ _ ∙ choice-false c _ _ ∙ choice-true t _ _) in
+    rw is (eqb-true k 4 t)) (λ d.
+    ok_err (e ∙ choice-false a _ _ ∙ choice-false b _ _ ∙ choice-false c _ _ ∙ choice-false d _ _)))))
+
+-- a number that is no class's: no fault has it, and its refusal is the rule's
+pub class_refused : (n : ℕ) (words : List ℕ) (f : Fault) (r : Refusal) → Err r ≡ class_of f.class
+    → refused (number_of r) (place_of r) ≡ first_of (fault_rows n words f) fine
 unfolding fault_rows
-nine_none n words f e = rw e
+class_refused n words f r e =
+    by_test (eqb f.class 1) (λ t. ok_err (sym (e ∙ choice-true t _ _))) (λ a.
+    by_test (eqb f.class 2) (λ t. ok_err (sym (e ∙ choice-false a _ _ ∙ choice-true t _ _))) (λ b.
+    by_test (eqb f.class 3) (λ t. ok_err (sym (e ∙ choice-false a _ _ ∙ choice-false b _ _ ∙ choice-true t _ _))) (λ c.
+    by_test (eqb f.class 4) (λ t. ok_err (sym (e ∙ choice-false a _ _ ∙ choice-false b _ _ ∙ choice-false c _ _ ∙ choice-true t _ _))) (λ d.
+    let is : r ≡ refusal.Fault 1 = err_one (e ∙ choice-false a _ _ ∙ choice-false b _ _ ∙ choice-false c _ _ ∙ choice-false d _ _) in
+    let none = class_none n (gates_of words) f (λ q. true≢false (sym (eq-eqb f.class 1 q) ∙ a)) (λ q. true≢false (sym (eq-eqb f.class 2 q) ∙ b))
+    (λ q. true≢false (sym (eq-eqb f.class 3 q) ∙ c)) (λ q. true≢false (sym (eq-eqb f.class 4 q) ∙ d)) in
+    rw (is, none) refl))))
 
 -- ---- calls whose rules none is broken
 

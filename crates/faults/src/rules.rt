@@ -1,115 +1,120 @@
 // The rules of a fault.
-ghost use Rattle.std.specs.Prelude.{◌≡◌};
+ghost use Rattle.std.specs.Prelude.{◌≡◌, true, IfOk};
 ghost use Rattle.refusals.specs.Tables.{first_of};
-ghost use Rattle.refusals.specs.Checks.{fine, found};
-ghost use Rattle.circuit.specs.Gates.{gates_of};
-ghost use Rattle.circuit.specs.Sound.{Sound};
-ghost use Rattle.faults.specs.Rules.{is_stuck_at, is_gate, is_missing_gate, is_missing_control, is_extra_control, fault_rows};
+ghost use Rattle.refusals.specs.Answers.{fine, found};
+ghost use Rattle.circuit.specs.Gates.{gate_at};
+ghost use Rattle.circuit.specs.Controls.{is_control};
+ghost use Rattle.circuit.specs.Checked.{gates_in};
+ghost use Rattle.faults.specs.Rules.{is_stuck_at, is_gate, is_missing_gate, is_missing_control, is_extra_control, is_fault, fault_rows};
+ghost use Rattle.faults.specs.Kinds.{class_number, class_of};
+ghost use Rattle.faults.specs.Checked.{IsKnown};
 
+use crate::checked::KnownFault;
+use crate::classes::{Class, GateClass};
 use crate::sites::sites_at;
 use crate::{Fault, places};
-use circuit::checked::{gate_at, is_control, is_other};
+use circuit::checked::{Circuit, is_control, is_other};
 use circuit::numbers;
 use circuit::numbers::GateNumber;
-use refusals::{Checked, Refusal};
+use refusals::{Refusal, refuse_when};
 use words;
 
 // Whether a record names a site of the circuit and a value.
-pub fn is_stuck_at(lines: u32, gates: &[u32], fault: Fault) -> bool
-    requires { Sound lines gates.now }
-    ensures { result ≡ is_stuck_at lines (gates_of gates.now) fault }
+#[tactic(auto, using(crate::proofs::SiteLaws::site_above), unfolding(crate::specs::Rules::is_stuck_at))]
+pub fn is_stuck_at(circuit: &Circuit, fault: Fault) -> bool
+    ensures { result ≡ is_stuck_at circuit.now.lines (gates_in circuit.now) fault }
 {
     let level = places::level_of(fault);
-    let line = fault.line;
-    if gates.len() / 3 < numbers::gates_before(level) {
-        return false;
-    }
-    if lines <= line {
-        return false;
-    }
-    if words::checked::value(sites_at(lines, gates, level), line) != 1 {
-        return false;
-    }
-    fault.value <= 1
+    numbers::gates_before(level) <= circuit.depth()
+        && fault.line < circuit.lines
+        && words::checked::value(sites_at(circuit, level), fault.line) == 1
+        && fault.value <= 1
 }
 
 // Whether a circuit has a gate of this number: they run from 1 to the last.
-fn is_gate(gates: &[u32], gate: GateNumber) -> bool
-    ensures { result ≡ is_gate (gates_of gates.now) gate.0 }
+#[tactic(auto, unfolding(crate::specs::Rules::is_gate))]
+fn is_gate(circuit: &Circuit, gate: GateNumber) -> bool
+    ensures { result ≡ is_gate (gates_in circuit.now) gate.0 }
 {
     let number = numbers::gates_through(gate);
-    if number == 0 {
-        return false;
-    }
-    number <= gates.len() / 3
+    1 <= number && number <= circuit.depth()
 }
 
 // Whether a record names a gate, and nothing else.
-pub fn is_missing_gate(lines: u32, gates: &[u32], fault: Fault) -> bool
-    requires { Sound lines gates.now }
-    ensures { result ≡ is_missing_gate (gates_of gates.now) fault }
+#[tactic(auto, unfolding(crate::specs::Rules::is_missing_gate))]
+pub fn is_missing_gate(circuit: &Circuit, fault: Fault) -> bool
+    ensures { result ≡ is_missing_gate (gates_in circuit.now) fault }
 {
-    if !is_gate(gates, places::gate_of(fault)) {
-        return false;
-    }
-    if fault.line != 0 {
-        return false;
-    }
-    fault.value == 0
+    is_gate(circuit, places::gate_of(fault)) && fault.line == 0 && fault.value == 0
+}
+
+// Whether a line is a control of a gate; a line past the circuit's is none.
+#[tactic(auto, using(crate::proofs::RuleLaws::gate_in))]
+fn controls(circuit: &Circuit, gate: GateNumber, line: u32) -> bool
+    requires { is_gate (gates_in circuit.now) gate.0 ≡ true }
+    ensures { result ≡ is_control (gate_at (gates_in circuit.now) gate.0) line }
+{
+    line < circuit.lines && is_control(circuit.gate(gate), line)
 }
 
 // Whether a record names a gate and one of its controls.
-pub fn is_missing_control(lines: u32, gates: &[u32], fault: Fault) -> bool
-    requires { Sound lines gates.now }
-    ensures { result ≡ is_missing_control (gates_of gates.now) fault }
+#[tactic(auto, unfolding(crate::specs::Rules::is_missing_control))]
+pub fn is_missing_control(circuit: &Circuit, fault: Fault) -> bool
+    ensures { result ≡ is_missing_control (gates_in circuit.now) fault }
 {
     let gate = places::gate_of(fault);
-    let line = fault.line;
-    if !is_gate(gates, gate) {
-        return false;
-    }
-    if lines <= line {
-        return false;
-    }
-    if !is_control(gate_at(gates, gate), line) {
-        return false;
-    }
-    fault.value == 0
+    is_gate(circuit, gate) && controls(circuit, gate, fault.line) && fault.value == 0
 }
 
 // Whether a record names a gate and a line that is neither a control of it nor its target.
-pub fn is_extra_control(lines: u32, gates: &[u32], fault: Fault) -> bool
-    requires { Sound lines gates.now }
-    ensures { result ≡ is_extra_control lines (gates_of gates.now) fault }
+#[tactic(auto, using(crate::proofs::RuleLaws::gate_in), unfolding(crate::specs::Rules::is_extra_control))]
+pub fn is_extra_control(circuit: &Circuit, fault: Fault) -> bool
+    ensures { result ≡ is_extra_control circuit.now.lines (gates_in circuit.now) fault }
 {
     let gate = places::gate_of(fault);
-    let line = fault.line;
-    if !is_gate(gates, gate) {
-        return false;
-    }
-    if lines <= line {
-        return false;
-    }
-    if !is_other(gate_at(gates, gate), line) {
-        return false;
-    }
-    fault.value == 0
+    is_gate(circuit, gate)
+        && fault.line < circuit.lines
+        && is_other(circuit.gate(gate), fault.line)
+        && fault.value == 0
 }
 
-// Rule 9 of a fault that is asked alone: a decision over the class number.
-pub fn check_fault(lines: u32, gates: &[u32], fault: Fault) -> Checked
-    requires { Sound lines gates.now }
-    ensures { found result ≡ first_of (fault_rows lines gates.now fault) fine }
+// The class of a number: a decision over it, in which the numbers of no class are a range.
+pub fn check_class(class: u32) -> Result<Class, Refusal>
+    ensures { result ≡ class_of class }
 {
-    let class = fault.class;
     match class {
-        1 => refusals::unless(is_stuck_at(lines, gates, fault), 9, 1),
-        2 => refusals::unless(is_missing_gate(lines, gates, fault), 9, 1),
-        3 => refusals::unless(is_missing_control(lines, gates, fault), 9, 1),
-        4 => refusals::unless(is_extra_control(lines, gates, fault), 9, 1),
-        0 | 5..=4294967295 => Checked::Wrong(Refusal {
-            number: 9,
-            place: 1,
-        }),
+        1 => Ok(Class::StuckAt),
+        2 => Ok(Class::AtGate(GateClass::MissingGate)),
+        3 => Ok(Class::AtGate(GateClass::MissingControl)),
+        4 => Ok(Class::AtGate(GateClass::ExtraControl)),
+        0 | 5..=4294967295 => Err(Refusal::Fault(1)),
     }
+}
+
+// Whether a circuit has a fault of the class that its record names.
+#[tactic(auto, using(crate::proofs::RuleLaws::class_one, crate::proofs::RuleLaws::class_two, crate::proofs::RuleLaws::class_three, crate::proofs::RuleLaws::class_four))]
+fn has(circuit: &Circuit, class: Class, fault: Fault) -> bool
+    requires { fault.class ≡ class_number class }
+    ensures { result ≡ is_fault circuit.now.lines (gates_in circuit.now) fault }
+{
+    match class {
+        Class::StuckAt => is_stuck_at(circuit, fault),
+        Class::AtGate(GateClass::MissingGate) => is_missing_gate(circuit, fault),
+        Class::AtGate(GateClass::MissingControl) => is_missing_control(circuit, fault),
+        Class::AtGate(GateClass::ExtraControl) => is_extra_control(circuit, fault),
+    }
+}
+
+// Rule 9 of a fault that is asked alone.
+#[tactic(auto, using(crate::proofs::RuleLaws::class_known, crate::proofs::RuleLaws::class_refused, crate::proofs::RuleLaws::fault_ok), unfolding(crate::specs::Rules::fault_rows))]
+pub fn check_fault<'a>(circuit: &Circuit<'a>, fault: Fault) -> Result<KnownFault<'a>, Refusal>
+    ensures rules { found result ≡ first_of (fault_rows circuit.now.lines circuit.now.gates.now fault) fine }
+    ensures known { IfOk result (IsKnown circuit.now fault) }
+{
+    let class = check_class(fault.class)?;
+    refuse_when(!has(circuit, class, fault), Refusal::Fault(1))?;
+    Ok(KnownFault {
+        circuit: *circuit,
+        fault,
+    })
 }

@@ -1,21 +1,17 @@
 -- Different answers tell different things.
-use mathlib.Core.Path.{◌≡◌, ap}
-use Rattle.refusals.proofs.Clashes.{answered-refused, refused-answered}
-use Rattle.refusals.proofs.Tables.{told_refusal}
-use Rattle.job.specs.Answers.{told_read, told_written}
-use Rattle.job.specs.declared.Read.{Read}
-use Rattle.job.specs.declared.Read.TheVariants as read
-use Rattle.job.specs.declared.Written.{Written}
-use Rattle.job.specs.declared.Written.TheVariants as written
+use Rattle.std.proofs.Common.{◌≡◌, ℕ, Result}
+use Rattle.refusals.specs.declared.Refusal.{Refusal}
+use Rattle.refusals.specs.Answers.{told}
+use Rattle.refusals.proofs.OneAnswer.{told-one}
+use Rattle.job.specs.Answers.{job_values}
+use Rattle.job.specs.declared.Job.{Job}
 
-pub told_read-one : (r s : Read) → told_read r ≡ told_read s → r ≡ s
-told_read-one (read.Job n k d m) (read.Job n' k' d' m') e = cc
-told_read-one (read.Job n k d m) (read.Refused q) e = answered-refused e
-told_read-one (read.Refused p) (read.Job n k d m) e = refused-answered e
-told_read-one (read.Refused p) (read.Refused q) e = ap read.Refused (told_refusal p q e)
+abbrev job_of : ℕ → ℕ → ℕ → ℕ → Job
+job_of n k d m = record { lines = n; classes = k; gates = d; vectors = m }
 
-pub told_written-one : (r s : Written) → told_written r ≡ told_written s → r ≡ s
-told_written-one (written.Bytes a) (written.Bytes b) e = cc
-told_written-one (written.Bytes a) (written.Refused q) e = answered-refused e
-told_written-one (written.Refused p) (written.Bytes b) e = refused-answered e
-told_written-one (written.Refused p) (written.Refused q) e = ap written.Refused (told_refusal p q e)
+values-one : (a b : Job) → job_values a ≡ job_values b → a ≡ b
+values-one a b e =
+    let same : job_of a.lines a.classes a.gates a.vectors ≡ job_of b.lines b.classes b.gates b.vectors = cc in same
+
+pub told_job-one : (r s : Result Job Refusal) → told job_values r ≡ told job_values s → r ≡ s
+told_job-one r s e = told-one job_values values-one r s e

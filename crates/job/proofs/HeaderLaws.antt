@@ -1,18 +1,9 @@
--- Laws of the header: which test breaks which rule, and what a header that breaks none is.
-use Prim.Native.Nat.{ℕ, ◌<◌, ◌≤◌}
-use mathlib.Core.Path.{◌≡◌, sym, ap}
-use mathlib.Core.Logic.{◌≢◌}
-use mathlib.Core.Bool.{true, false, not, ◌||◌, not-not}
-use mathlib.Core.List.{List, [], ◌∷◌}
-use native.Mathlib.Omega.{arith}
-use lib.ListN.{length}
-use lib.Dec.{eqb, ltb}
-use borrow.Author.Tests.{lt-ltb, le-ltb, eq-eqb, ne_eqb, ltb-false, eqb-true, eqb-false, not-false}
-use Rattle.basics.proofs.Tests.{or_neither, or_left}
+-- Laws of the header: what a header that breaks no rule is.
+use Rattle.std.proofs.Common.{ℕ, ◌≤◌, ◌≡◌, false, not, ◌||◌, List, arith, length, eqb, ltb, ltb-false, eqb-true}
+use Rattle.std.proofs.lemmas.Bool.{eqb-false, not-false}
+use Rattle.basics.proofs.Tests.{or_neither}
 use Rattle.refusals.specs.Tables.{first_of}
-use Rattle.refusals.specs.Tables.Row.{refuse◌at◌when◌}
-use Rattle.refusals.specs.Tables.Told.{refused}
-use Rattle.refusals.specs.Checks.{fine}
+use Rattle.refusals.specs.Answers.{fine}
 use Rattle.refusals.proofs.Tables.{fine_row}
 use Rattle.circuit.specs.Limits.{most_lines, most_gates, most_vectors}
 use Rattle.circuit.specs.Rules.{bad_lines, bad_counts}
@@ -20,73 +11,6 @@ use Rattle.circuit.proofs.RuleLaws.{lines_right, counts_right}
 use Rattle.number_bytes.specs.Bytes.{number_at}
 use Rattle.job.specs.Image.{header_length, past_gates, past_vectors, lines_in, classes_in, gates_in, vectors_in}
 use Rattle.job.specs.Rules.{bad_classes, bad_sizes, header_rows}
-
-module _ (bytes : List ℕ) where
-  -- ---- sizes: one law for each offset and the length that the header has, and one for the bytes that there are
-
-  pub sizes_gates : number_at 4 bytes 16 ≢ header_length → true ≡ bad_sizes bytes
-  unfolding bad_sizes
-  sizes_gates d = sym (or_left _ (ap not (ne_eqb (number_at 4 bytes 16) header_length d)))
-
-  module _ (gates : number_at 4 bytes 16 ≡ header_length) where
-    pub sizes_vectors : number_at 4 bytes 20 ≢ past_gates (gates_in bytes) → true ≡ bad_sizes bytes
-    unfolding bad_sizes
-    sizes_vectors d = rw (eq-eqb (number_at 4 bytes 16) header_length gates, ne_eqb (number_at 4 bytes 20) (past_gates (gates_in bytes)) d)
-
-    module _ (vectors : number_at 4 bytes 20 ≡ past_gates (gates_in bytes)) where
-      pub sizes_end : number_at 4 bytes 24 ≢ past_vectors (gates_in bytes) (vectors_in bytes) → true ≡ bad_sizes bytes
-      unfolding bad_sizes
-      sizes_end d =
-          rw (
-            eq-eqb (number_at 4 bytes 16) header_length gates,
-            eq-eqb (number_at 4 bytes 20) (past_gates (gates_in bytes)) vectors,
-            ne_eqb (number_at 4 bytes 24) (past_vectors (gates_in bytes) (vectors_in bytes)) d,
-          )
-
-      pub sizes_all : number_at 4 bytes 24 ≡ past_vectors (gates_in bytes) (vectors_in bytes)
-          → (end : ℕ) → end ≡ past_vectors (gates_in bytes) (vectors_in bytes) → not (eqb (length bytes) end) ≡ bad_sizes bytes
-      unfolding bad_sizes
-      sizes_all d end e =
-          rw (
-            e,
-            eq-eqb (number_at 4 bytes 16) header_length gates,
-            eq-eqb (number_at 4 bytes 20) (past_gates (gates_in bytes)) vectors,
-            eq-eqb (number_at 4 bytes 24) (past_vectors (gates_in bytes) (vectors_in bytes)) d,
-          )
-
-  -- ---- the table: one law for each row, past those before it
-
-  pub header_short : length bytes < header_length → refused 1 0 ≡ first_of (header_rows bytes) fine
-  unfolding header_rows
-  header_short h = rw (lt-ltb (length bytes) header_length h)
-
-  module _ (long : header_length ≤ length bytes) where
-    pub header_form : number_at 2 bytes 0 ≢ 1 → refused 2 0 ≡ first_of (header_rows bytes) fine
-    unfolding header_rows
-    header_form d = rw (le-ltb (length bytes) header_length long, ne_eqb (number_at 2 bytes 0) 1 d)
-
-    module _ (form : number_at 2 bytes 0 ≡ 1) where
-      pub header_lines : bad_lines (lines_in bytes) ≡ true → refused 3 0 ≡ first_of (header_rows bytes) fine
-      unfolding header_rows
-      header_lines e = rw (le-ltb (length bytes) header_length long, eq-eqb (number_at 2 bytes 0) 1 form, e)
-
-      module _ (lines : bad_lines (lines_in bytes) ≡ false) where
-        pub header_classes : bad_classes (classes_in bytes) || not (eqb (number_at 2 bytes 6) 0) ≡ true → refused 4 0 ≡ first_of (header_rows bytes) fine
-        unfolding header_rows
-        header_classes e = rw (le-ltb (length bytes) header_length long, eq-eqb (number_at 2 bytes 0) 1 form, lines, e)
-
-        module _ (classes : bad_classes (classes_in bytes) || not (eqb (number_at 2 bytes 6) 0) ≡ false) where
-          pub header_counts : bad_counts (gates_in bytes) (vectors_in bytes) ≡ true → refused 5 0 ≡ first_of (header_rows bytes) fine
-          unfolding header_rows
-          header_counts e = rw (le-ltb (length bytes) header_length long, eq-eqb (number_at 2 bytes 0) 1 form, lines, classes, e)
-
-          pub header_sizes : bad_counts (gates_in bytes) (vectors_in bytes) ≡ false
-              → first_of (refuse 6 at 0 when not (not (bad_sizes bytes)) ∷ []) fine ≡ first_of (header_rows bytes) fine
-          unfolding header_rows
-          header_sizes e =
-              rw (le-ltb (length bytes) header_length long, eq-eqb (number_at 2 bytes 0) 1 form, lines, classes, e, not-not (bad_sizes bytes))
-
--- ---- a header that breaks no rule
 
 pub record HeaderOk (bytes : List ℕ) : Type 0 where
   pub long : header_length ≤ length bytes

@@ -1,6 +1,5 @@
 pub mod ImageLaws
 pub mod RowLaws
-pub mod TurnLaws
 pub mod HeaderLaws
 pub mod ReadLaws
 pub mod WriteLaws

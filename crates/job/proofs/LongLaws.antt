@@ -1,19 +1,12 @@
 -- Bytes that are more than the longest job has: rules 2 to 5 of the header, and else rule 6, decide what is told of them,
 -- so that their first 28 bytes are all that counts.
-use Prim.Native.Nat.{ℕ, zero, suc, ◌+◌, ◌*◌, ◌≤◌}
-use mathlib.Core.Path.{◌≡◌, refl, sym, ap, ap₂, ◌∙◌}
-use mathlib.Core.Bool.{true, false, not, ◌||◌}
-use mathlib.Core.List.{List, [], ◌∷◌}
-use native.Mathlib.Omega.{arith}
-use lib.ListN.{length, take}
-use lib.Seq.{get_or-take}
-use lib.Dec.{eqb}
-use borrow.Author.Tests.{le-ltb, ne_eqb}
+use Rattle.std.proofs.Common.{ℕ, zero, suc, ◌+◌, ◌*◌, ◌≤◌, ◌≡◌, ◌∙◌, true, false, not, ◌||◌, List, [], ◌∷◌, length, take, eqb}
+use Rattle.std.proofs.Common.{refl, sym, ap, ap₂, arith, get_or-take, le-ltb, ne_eqb}
 use Rattle.basics.proofs.Tests.{by_test, or_right}
 use Rattle.refusals.specs.Tables.{Row, Told, first_of}
 use Rattle.refusals.specs.Tables.Row.{refuse◌at◌when◌}
 use Rattle.refusals.specs.Tables.Told.{refused}
-use Rattle.refusals.specs.Checks.{fine}
+use Rattle.refusals.specs.Answers.{fine}
 use Rattle.refusals.proofs.Tables.{refused_on}
 use Rattle.number_bytes.specs.Bytes.{number_at}
 use Rattle.job.specs.Image.{longest_job, lines_in, classes_in, gates_in, vectors_in}
@@ -70,7 +63,8 @@ long_told bytes gate_room vector_room answer h =
 
 -- ---- it is the same where the first 28 bytes are
 
-number_front : (width : ℕ) (bytes : List ℕ) (start end : ℕ) → start + width ≤ end → number_at width (take end bytes) start ≡ number_at width bytes start
+number_front : (width : ℕ) (bytes : List ℕ) (start end : ℕ) → start + width ≤ end
+    → number_at width (take end bytes) start ≡ number_at width bytes start
 unfolding number_at
 number_front zero bytes start end h = refl
 number_front (suc width) bytes start end h =

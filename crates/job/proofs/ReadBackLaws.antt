@@ -1,12 +1,7 @@
 -- A job that is read can be written: what it holds breaks no rule of writing where there is room.
-use Prim.Native.Nat.{ℕ, ◌*◌, ◌+◌, ◌≤◌}
-use mathlib.Core.Path.{◌≡◌}
-use mathlib.Core.List.{List}
-use native.Mathlib.Omega.{arith}
-use lib.ListN.{length}
-use borrow.Author.Tests.{le-ltb, eq-eqb, ne_eqb}
+use Rattle.std.proofs.Common.{ℕ, ◌*◌, ◌+◌, ◌≤◌, ◌≡◌, List, arith, length, le-ltb, eq-eqb, ne_eqb}
 use Rattle.refusals.specs.Tables.{first_of}
-use Rattle.refusals.specs.Checks.{fine}
+use Rattle.refusals.specs.Answers.{fine}
 use Rattle.circuit.specs.Rules.{first_bad_gate, first_bad_vector, bad_lines, bad_counts}
 use Rattle.job.specs.Image.{lines_in, classes_in, gates_in, vectors_in, gate_words, vector_words, gate_count, image}
 use Rattle.job.specs.Rules.{bad_classes, read_rows, write_rows, content_rows}

@@ -1,42 +1,21 @@
--- Laws of reading: the table by its parts, and what a job that is read and breaks no rule is.
-use Prim.Native.Nat.{ℕ, ◌*◌, ◌/◌, ◌≤◌}
-use mathlib.Core.Path.{◌≡◌, refl, sym, ◌∙◌}
-use mathlib.Core.Bool.{Bool, not, not-not}
-use mathlib.Core.List.{List, [], ◌∷◌, ◌++◌}
-use native.Mathlib.Omega.{arith}
-use lib.ListN.{length}
-use lib.Dec.{eqb, ltb}
-use borrow.Author.Tests.{le-ltb, eq-eqb, ne_eqb, ltb-false}
+-- Laws of reading: what a job that is read and breaks no rule is.
+use Rattle.std.proofs.Common.{ℕ, ◌*◌, ◌/◌, ◌≤◌, ◌≡◌, ◌∙◌, Bool, not, List, [], ◌∷◌, ◌++◌, length, eqb, ltb}
+use Rattle.std.proofs.Common.{refl, sym, arith, length-take-le, le-ltb, eq-eqb, ne_eqb, ltb-false}
 use Rattle.basics.proofs.Tests.{or_neither}
 use Rattle.refusals.specs.Tables.{first_of}
-use Rattle.refusals.specs.Tables.Row.{refuse◌at◌when◌}
-use Rattle.refusals.specs.Tables.Told.{refused}
-use Rattle.refusals.specs.Checks.{fine, found}
-use Rattle.refusals.specs.declared.Checked.{Checked}
-use Rattle.refusals.proofs.Tables.{refused_on, fine_on, fine_row, fine-parts}
+use Rattle.refusals.specs.Answers.{fine}
+use Rattle.refusals.proofs.Places.{told_none}
+use Rattle.refusals.proofs.Tables.{fine_on, fine_row, turns, fine-parts, calls}
 use Rattle.circuit.specs.Rules.{first_bad_gate, first_bad_vector, circuit_set_rows, set_rows}
-use Rattle.circuit.proofs.RuleLaws.{VectorsOk, vectors_ok, lines_good, counts_good, set-fine}
+use Rattle.circuit.proofs.RuleLaws.{VectorsOk, vectors_ok, lines_good, counts_good, set_gates}
 use Rattle.number_bytes.specs.Bytes.{number_at}
 use Rattle.job.specs.Image.{header_length, past_gates, past_vectors, lines_in, classes_in, gates_in, vectors_in, gate_words, vector_words}
 use Rattle.job.specs.Rules.{bad_classes, bad_sizes, bad_room, header_rows, content_rows, content_rows_in, room_rows, read_rows}
-use Rattle.job.specs.Turns.{sooner}
-use Rattle.job.proofs.TurnLaws.{sooner_rows}
-use Rattle.job.proofs.ImageLaws.{length-gate_words, length-vector_words}
+use Rattle.job.proofs.ImageLaws.{length-gate_words, length-vector_words, gates_front, vectors_front}
 use Rattle.job.proofs.HeaderLaws.{HeaderOk, same, header_ok}
 
-module _ (bytes : List ℕ) (words vectors : ℕ) where
-  pub read_header_lem : (k p : ℕ) → refused k p ≡ first_of (header_rows bytes) fine → refused k p ≡ first_of (read_rows bytes words vectors) fine
-  unfolding read_rows
-  read_header_lem k p e = refused_on (header_rows bytes) (content_rows_in bytes ++ room_rows bytes words vectors) fine k p e
-
-  pub read_rest : (bad : Bool) (content room : Checked) → fine ≡ first_of (header_rows bytes) fine
-      → found content ≡ first_of (content_rows_in bytes) fine → bad ≡ bad_room bytes words vectors
-      → found room ≡ first_of (refuse 10 at 0 when not (not bad) ∷ []) fine
-      → found (sooner content room) ≡ first_of (read_rows bytes words vectors) fine
-  unfolding read_rows
-  read_rest bad content room e f b g =
-      sooner_rows (content_rows_in bytes) (room_rows bytes words vectors) content room f (rw (not-not bad, b) at g)
-      ∙ sym (fine_on (header_rows bytes) (content_rows_in bytes ++ room_rows bytes words vectors) fine e)
+-- what the check of a job that is read is proved by
+pub ruleset read_steps = (turns, header_ok, gates_front, vectors_front, length-take-le)
 
 -- a job that is read and breaks no rule
 pub record ReadOk (bytes : List ℕ) (words vectors : ℕ) : Type 0 where
@@ -84,6 +63,9 @@ ok_read bytes words vectors ok =
       le-ltb vectors (vectors_in bytes) ok.vectors_room,
     )
 
+-- what the call that reads a job is proved by
+pub ruleset job_steps = (calls, read_ok)
+
 -- its circuit and its set of vectors break no rule of theirs
 pub read_set : (bytes : List ℕ) (words vectors : ℕ) → ReadOk bytes words vectors
     → VectorsOk (lines_in bytes) (gate_words bytes) (vector_words bytes)
@@ -94,6 +76,6 @@ read_set bytes words vectors ok =
     let lines = lines_good n ok.head.some_lines ok.head.lines_fit in
     let counts = counts_good (length (gate_words bytes) / 3) m (omega (arith, length-gate_words bytes, ok.head.gates_fit))
     (omega (arith, length-vector_words bytes, ok.head.vectors_fit)) in
-    let circuit = set-fine n (gate_words bytes) m lines counts (first_bad_gate n (gate_words bytes)) refl ok.gates_good in
+    let circuit = told_none 7 (first_bad_gate n (gate_words bytes)) ok.gates_good ∙ set_gates n (gate_words bytes) m lines counts in
     vectors_ok n (gate_words bytes) (vector_words bytes)
     (rw (fine_on (circuit_set_rows n (gate_words bytes) m) _ fine circuit, eq-eqb (first_bad_vector n (vector_words bytes)) 0 ok.vectors_good))

@@ -1,15 +1,11 @@
 -- Jobs and their images: a job that is written is read again as it was, an image that is read is written again as it was,
 -- and two jobs have two images.
-use Prim.Native.Nat.{ℕ, ◌*◌, ◌≤◌}
-use mathlib.Core.Path.{◌≡◌, refl, sym, ap, ap₂, ◌∙◌}
-use mathlib.Core.List.{List, [], ◌++◌, append_assoc, append-nil}
-use borrow.Author.Rules.{rules}
-use native.Mathlib.Omega.{arith}
-use lib.ListN.{length, drop, length-append}
-use lib.Seq.{drop-length}
+use Rattle.std.proofs.Common.{ℕ, ◌*◌, ◌≤◌, ◌≡◌, ◌∙◌, List, [], ◌++◌, length, drop}
+use Rattle.std.proofs.Common.{refl, sym, ap, ap₂, append_assoc, append-nil, rules, arith, length-append}
+use Rattle.std.proofs.Math.Seq.{drop-length}
 use Rattle.basics.specs.Lists.{each, All}
 use Rattle.refusals.specs.Tables.{first_of}
-use Rattle.refusals.specs.Checks.{fine}
+use Rattle.refusals.specs.Answers.{fine}
 use Rattle.circuit.specs.Rules.{first_bad_gate, first_bad_vector}
 use Rattle.circuit.proofs.WordLaws.{words_fit, words-whole, vectors_fit}
 use Rattle.number_bytes.specs.Bytes.{bytes_of, number_at, words_at}
@@ -148,7 +144,8 @@ module _ (n k : ℕ) (words xs : List ℕ) (ok : JobOk n k words xs) where
       }
 
   -- it breaks no rule of reading where there is room
-  image_ok : (gate_room vector_room : ℕ) → 3 * gate_count words ≤ gate_room → length xs ≤ vector_room → ReadOk (image n k words xs) gate_room vector_room
+  image_ok : (gate_room vector_room : ℕ) → 3 * gate_count words ≤ gate_room → length xs ≤ vector_room
+      → ReadOk (image n k words xs) gate_room vector_room
   image_ok gate_room vector_room g v =
       let h = holds in
       record {

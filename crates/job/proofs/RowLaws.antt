@@ -1,13 +1,10 @@
 -- Header rows and their bytes say the same, both ways.
-use Prim.Native.Nat.{ℕ, ◌+◌, ◌^◌, ◌<◌, ◌≤◌}
-use mathlib.Core.Path.{◌≡◌, sym, ap, ap₂, ◌∙◌, subst}
-use mathlib.Core.List.{List, [], ◌∷◌, ◌++◌, append_assoc}
-use native.Mathlib.Omega.{arith}
-use lib.ListN.{length, drop, length-append}
+use Rattle.std.proofs.Common.{ℕ, ◌+◌, ◌^◌, ◌<◌, ◌≤◌, ◌≡◌, ◌∙◌, List, [], ◌∷◌, ◌++◌, length, drop}
+use Rattle.std.proofs.Common.{sym, ap, ap₂, subst, append_assoc, arith, length-append}
 use Rattle.basics.specs.Lists.{each, All}
 use Rattle.number_bytes.specs.Bytes.{bytes_of, number_at}
-use Rattle.number_bytes.proofs.ByteLaws.{length_bytes}
-use Rattle.number_bytes.proofs.NumberLaws.{Bytes, number_skip, bytes_number, number_on}
+use Rattle.number_bytes.proofs.ByteLaws.{number_skip, length_bytes}
+use Rattle.number_bytes.proofs.NumberLaws.{Bytes, bytes_number, number_on}
 use Rattle.job.specs.Image.{HeaderRow, row_bytes}
 use Rattle.job.specs.Image.HeaderRow.{byte◌wide◌holds◌}
 

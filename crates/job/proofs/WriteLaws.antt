@@ -1,56 +1,18 @@
--- Laws of writing: which test breaks which rule, and what a job that is written and breaks none is.
-use Prim.Native.Nat.{ℕ, ◌+◌, ◌*◌, ◌/◌, ◌≤◌}
-use mathlib.Core.Path.{◌≡◌, ap, sym, ◌∙◌}
-use mathlib.Core.Bool.{true, false, not}
-use mathlib.Core.List.{List, [], ◌∷◌}
-use lib.ListN.{length}
-use lib.Dec.{eqb, ltb, leb}
-use borrow.Author.Tests.{lt-ltb, le-ltb, leb-true, leb-false, ltb-false}
-use Rattle.basics.proofs.Tests.{by_test}
+-- Laws of writing: what a job that is written and breaks none is.
+use Rattle.std.proofs.Common.{ℕ, ◌≤◌, ◌≡◌, not, List, length, eqb, ltb, ltb-false}
 use Rattle.refusals.specs.Tables.{first_of}
-use Rattle.refusals.specs.Tables.Row.{refuse◌at◌when◌}
-use Rattle.refusals.specs.Tables.Told.{refused}
-use Rattle.refusals.specs.Checks.{fine, found}
-use Rattle.refusals.specs.declared.Checked.{Checked}
-use Rattle.refusals.proofs.Tables.{fine_row}
+use Rattle.refusals.specs.Answers.{fine}
+use Rattle.refusals.proofs.Tables.{fine_row, turns, calls}
 use Rattle.circuit.specs.Limits.{most_lines, most_gates, most_vectors}
 use Rattle.circuit.specs.Rules.{bad_lines, bad_counts, first_bad_gate, first_bad_vector}
 use Rattle.circuit.proofs.RuleLaws.{lines_right, counts_right}
-use Rattle.job.specs.Image.{header_length, gate_count, image}
+use Rattle.job.specs.Image.{gate_count, image}
 use Rattle.job.specs.Rules.{bad_classes, content_rows, write_rows}
-use Rattle.job.specs.Turns.{sooner}
-use Rattle.job.proofs.TurnLaws.{sooner_rows}
 use Rattle.job.proofs.ImageLaws.{length-image}
 use Rattle.job.proofs.HeaderLaws.{same, classes_right}
 
--- a negated test
-not_leb : (a b : ℕ) → not (leb a b) ≡ ltb b a
-not_leb a b = by_test (leb a b) (λ e. ap not e ∙ sym (le-ltb b a (leb-true a b e))) (λ e. ap not e ∙ sym (lt-ltb b a (leb-false a b e)))
-
-module _ (n k : ℕ) (words xs : List ℕ) (room : ℕ) where
-  pub write_lines : bad_lines n ≡ true → refused 3 0 ≡ first_of (write_rows n k words xs room) fine
-  unfolding write_rows
-  write_lines e = rw e
-
-  module _ (lines : bad_lines n ≡ false) where
-    pub write_classes : bad_classes k ≡ true → refused 4 0 ≡ first_of (write_rows n k words xs room) fine
-    unfolding write_rows
-    write_classes e = rw (lines, e)
-
-    module _ (classes : bad_classes k ≡ false) where
-      pub write_counts : bad_counts (length words / 3) (length xs) ≡ true → refused 5 0 ≡ first_of (write_rows n k words xs room) fine
-      unfolding write_rows gate_count
-      write_counts e = rw (lines, classes, e)
-
-      pub write_rest : bad_counts (length words / 3) (length xs) ≡ false → (content bytes : Checked)
-          → found content ≡ first_of (content_rows n words xs) fine
-          → found bytes ≡ first_of (refuse 10 at 0 when not (leb (header_length + 4 * length words + 4 * length xs) room) ∷ []) fine
-          → found (sooner content bytes) ≡ first_of (write_rows n k words xs room) fine
-      unfolding write_rows gate_count
-      write_rest e content bytes f g =
-          rw (lines, classes, e)
-          (sooner_rows (content_rows n words xs) (refuse 10 at 0 when ltb room (length (image n k words xs)) ∷ []) content bytes f
-          (rw (not_leb (header_length + 4 * length words + 4 * length xs) room, ← length-image n k words xs) at g))
+-- what the check of a job that is written is proved by
+pub ruleset write_steps = (turns, lines_right, counts_right, length-image)
 
 -- a job that breaks no rule
 pub record JobOk (n k : ℕ) (words xs : List ℕ) : Type 0 where
@@ -93,3 +55,6 @@ write_ok n k words xs room e0 =
       };
       bytes_room = ltb-false room (length (image n k words xs)) e10.0;
     }
+
+-- what the call that writes a job is proved by
+pub ruleset job_steps = (calls, write_ok)

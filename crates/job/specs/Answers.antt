@@ -1,18 +1,12 @@
--- What reading and writing a job tell.
-use Rattle.std.specs.Prelude.{[], ◌∷◌}
-use Rattle.refusals.specs.Tables.{Told}
-use Rattle.refusals.specs.Tables.Told.{answered, refused}
-use Rattle.job.specs.declared.Read.{Read}
-use Rattle.job.specs.declared.Read.TheVariants as read
-use Rattle.job.specs.declared.Written.{Written}
-use Rattle.job.specs.declared.Written.TheVariants as written
+-- What reading a job tells.
+use Rattle.std.specs.Prelude.{ℕ, List, [], ◌∷◌}
+use Rattle.job.specs.Image.{lines_in, classes_in, gates_in, vectors_in}
+use Rattle.job.specs.declared.Job.{Job}
 
 -- the lines, the classes wanted, the number of gates and the number of vectors
-abbrev pub told_read : Read → Told
-told_read (read.Job lines classes gates vectors) = answered (lines ∷ classes ∷ gates ∷ vectors ∷ [])
-told_read (read.Refused r) = refused r.number r.place
+abbrev pub job_values : Job → List ℕ
+job_values job = job.lines ∷ job.classes ∷ job.gates ∷ job.vectors ∷ []
 
--- the number of bytes written
-abbrev pub told_written : Written → Told
-told_written (written.Bytes number) = answered (number ∷ [])
-told_written (written.Refused r) = refused r.number r.place
+-- the job that the header of an image says
+abbrev pub job_in : List ℕ → Job
+job_in bytes = record { lines = lines_in bytes; classes = classes_in bytes; gates = gates_in bytes; vectors = vectors_in bytes }

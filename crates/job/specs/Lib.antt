@@ -1,6 +1,5 @@
 pub mod Image
 pub mod Rules
-pub mod Turns
 pub mod Answers
 pub mod Wanted
 pub mod Promises

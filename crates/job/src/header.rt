@@ -1,37 +1,21 @@
 // What the header of a job says.
 ghost use Rattle.std.specs.Prelude.{◌≡◌, ◌≤◌, length};
 ghost use Rattle.job.specs.Image.{header_length, lines_in, classes_in, gates_in, vectors_in};
+ghost use Rattle.job.specs.Answers.{job_in};
 
-use number_bytes::checked::{number_at_2, number_at_4};
+use crate::Job;
+use number_bytes::checked::number_at;
 
-// The number of lines.
-pub fn lines_in(image: &[u8]) -> u32
+// Its job, whether it breaks rules or not.
+#[tactic(auto, unfolding(crate::specs::Image::lines_in, crate::specs::Image::classes_in, crate::specs::Image::gates_in, crate::specs::Image::vectors_in))]
+pub fn job_in(image: &[u8]) -> Job
     requires { header_length ≤ length image.now }
-    ensures { result ≡ lines_in image.now }
+    ensures { result ≡ job_in image.now }
 {
-    number_at_2(image, 2)
-}
-
-// The classes wanted.
-pub fn classes_in(image: &[u8]) -> u32
-    requires { header_length ≤ length image.now }
-    ensures { result ≡ classes_in image.now }
-{
-    number_at_2(image, 4)
-}
-
-// The number of gates.
-pub fn gates_in(image: &[u8]) -> u32
-    requires { header_length ≤ length image.now }
-    ensures { result ≡ gates_in image.now }
-{
-    number_at_4(image, 8)
-}
-
-// The number of vectors.
-pub fn vectors_in(image: &[u8]) -> u32
-    requires { header_length ≤ length image.now }
-    ensures { result ≡ vectors_in image.now }
-{
-    number_at_4(image, 12)
+    Job {
+        lines: number_at::<2>(image, 2),
+        classes: number_at::<2>(image, 4),
+        gates: number_at::<4>(image, 8),
+        vectors: number_at::<4>(image, 12),
+    }
 }

@@ -1,22 +1,16 @@
--- Different verdicts tell different things, and so do different refusals beside a coverage.
-use Prim.Native.Nat.{ℕ}
-use mathlib.Core.Path.{◌≡◌, refl, sym, ap, ◌∙◌}
-use mathlib.Core.Bool.{Bool, true, false, ◌&&◌}
-use native.Mathlib.Omega.{arith}
-use lib.Dec.{eqb}
-use borrow.Author.Tests.{eqb-true}
-use Rattle.basics.specs.Choice.{choice}
-use Rattle.basics.proofs.Tests.{and_both}
-use mathlib.Core.List.{[], ◌∷◌}
-use Rattle.refusals.specs.Tables.Told.{answered, refused}
-use Rattle.refusals.specs.Checks.{fine}
-use Rattle.refusals.specs.declared.Refusal.{Refusal}
+-- Different verdicts tell different things, and so do different answers of a vector that is added, with the coverages that they hand back.
+use Rattle.std.specs.Prelude.{ℕ, ◌≡◌, Option, Some, None, Result, Ok, Err, [], ◌∷◌, refl}
+use Rattle.std.proofs.Common.{arith}
+use Rattle.refusals.specs.Tables.Told.{answered}
 use Rattle.refusals.proofs.Clashes.{answered-refused, refused-answered}
-use Rattle.refusals.proofs.Tables.{told_refusal}
+use Rattle.refusals.proofs.OneAnswer.{refusal-one}
 use Rattle.faults.specs.declared.Fault.{Fault}
-use Rattle.judge.specs.Answers.{told_verdict, told_beside}
+use Rattle.marking.specs.Firsts.{told_first}
+use Rattle.judge.specs.Added.{told_added, handed_back}
+use Rattle.judge.specs.Answers.{verdict_values}
 use Rattle.judge.specs.declared.Verdict.{Verdict}
-use Rattle.judge.specs.declared.Verdict.TheVariants.{Complete, Left, Refused}
+use Rattle.judge.specs.declared.coverage.Coverage.{Coverage}
+use Rattle.judge.specs.declared.coverage.Unchanged.{Unchanged}
 
 -- a verdict that shows a fault is not a complete one
 pub shown_complete {ℓ} : {A : Type ℓ} {a b c d k p l v : ℕ}
@@ -26,34 +20,27 @@ shown_complete e = let z : ◌≡◌ {A = ℕ} 0 1 = cc in absurd (omega arith)
 equal_fields : (f h : Fault) → f.class ≡ h.class → f.place ≡ h.place → f.line ≡ h.line → f.value ≡ h.value → f ≡ h
 equal_fields f h c p l v = λ i. record { class = c i; place = p i; line = l i; value = v i }
 
-pub told_verdict-one : (r s : Verdict) → told_verdict r ≡ told_verdict s → r ≡ s
-told_verdict-one (Complete a b) (Complete c d) e = cc
-told_verdict-one (Complete a b) (Left c d f) e = shown_complete (sym e)
-told_verdict-one (Complete a b) (Refused q) e = answered-refused e
-told_verdict-one (Left a b f) (Complete c d) e = shown_complete e
-told_verdict-one (Left a b f) (Left c d h) e =
-    let same : f ≡ h = equal_fields f h (cc) (cc) (cc) (cc) in
-    let n : a ≡ c = cc in
-    let m : b ≡ d = cc in
-    cc
-told_verdict-one (Left a b f) (Refused q) e = answered-refused e
-told_verdict-one (Refused p) (Complete c d) e = refused-answered e
-told_verdict-one (Refused p) (Left c d h) e = refused-answered e
-told_verdict-one (Refused p) (Refused q) e = ap Refused (told_refusal p q e)
+told_first-one : (f h : Option Fault) → told_first f ≡ told_first h → f ≡ h
+told_first-one None None e = refl
+told_first-one None (Some h) e = let z : ◌≡◌ {A = ℕ} 1 0 = cc in absurd (omega arith)
+told_first-one (Some f) None e = let z : ◌≡◌ {A = ℕ} 0 1 = cc in absurd (omega arith)
+told_first-one (Some f) (Some h) e = let same : f ≡ h = equal_fields f h (cc) (cc) (cc) (cc) in cc
 
--- ---- beside a coverage
+pub verdict_values-one : (v w : Verdict) → verdict_values v ≡ verdict_values w → v ≡ w
+verdict_values-one v w e =
+    let caught : v.caught ≡ w.caught = cc in
+    let total : v.total ≡ w.total = cc in
+    let told : told_first v.first ≡ told_first w.first = cc in
+    let first = told_first-one v.first w.first told in
+    λ i. record { caught = caught i; total = total i; first = first i }
 
-none_is : (r : Refusal) → eqb r.number 0 && eqb r.place 0 ≡ true → r ≡ record { number = 0; place = 0 }
-none_is r e =
-    let both = and_both (eqb r.number 0) (eqb r.place 0) e in
-    λ i. record { number = eqb-true r.number 0 both.0 i; place = eqb-true r.place 0 both.1 i }
+-- ---- a vector that is added
 
-beside_one : (b c : Bool) (r s : Refusal) → (b ≡ true → c ≡ true → r ≡ s)
-    → choice b fine (refused r.number r.place) ≡ choice c fine (refused s.number s.place) → r ≡ s
-beside_one true true r s none e = none refl refl
-beside_one true false r s none e = answered-refused e
-beside_one false true r s none e = refused-answered e
-beside_one false false r s none e = told_refusal r s e
+unchanged-one : (p q : Unchanged) → p.refusal ≡ q.refusal → p.coverage ≡ q.coverage → p ≡ q
+unchanged-one p q r c = λ i. record { refusal = r i; coverage = c i }
 
-pub told_beside-one : (r s : Refusal) → told_beside r ≡ told_beside s → r ≡ s
-told_beside-one r s e = beside_one _ _ r s (λ p q. none_is r p ∙ sym (none_is s q)) e
+pub added-one : (r s : Result Coverage Unchanged) → told_added r ≡ told_added s → handed_back r ≡ handed_back s → r ≡ s
+added-one (Ok c) (Ok d) e f = cc
+added-one (Ok c) (Err q) e f = answered-refused e
+added-one (Err p) (Ok d) e f = refused-answered e
+added-one (Err p) (Err q) e f = let same : p ≡ q = unchanged-one p q (refusal-one p.refusal q.refusal e) f in cc

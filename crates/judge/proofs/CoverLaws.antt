@@ -1,12 +1,8 @@
 -- Laws of coverages, list by list: each list of words has the marks of its class and value, and a mark that a coverage has stays.
-use Prim.Native.Nat.{ℕ}
-use mathlib.Core.Path.{◌≡◌, refl, sym, ap, ◌∙◌}
-use mathlib.Core.Logic.{◌≢◌}
-use mathlib.Core.Bool.{true, false, false≢true}
-use mathlib.Core.List.{List, [], ◌∷◌}
-use native.Mathlib.Omega.{arith}
-use lib.ListN.{length, length-replicate}
-use borrow.Author.Tests.{eq-eqb, ne_eqb}
+use Rattle.std.specs.Prelude.{ℕ, ◌≡◌, ◌≢◌, refl, true, false, List, [], ◌∷◌, length}
+use Rattle.std.proofs.Common.{sym, ap, ◌∙◌, arith, eq-eqb, ne_eqb}
+use Rattle.std.proofs.lemmas.Bool.{false≢true}
+use Rattle.std.proofs.lemmas.List.{length-replicate}
 use Rattle.basics.proofs.Tests.{by_equal, choice-true, choice-false}
 use Rattle.circuit.specs.Limits.{most_gates, levels}
 use Rattle.circuit.specs.declared.Gate.{Gate}
@@ -20,7 +16,7 @@ use Rattle.judge.specs.declared.coverage.Coverage.{Coverage}
 -- ---- which list has the marks of a class
 
 module _ (c : Coverage) (f : Fault) where
-  pub level_is : f.class ≡ 1 → is_marked c f ≡ level_marked c.stuck_at_0 c.stuck_at_1 f
+  pub level_is : f.class ≡ 1 → is_marked c f ≡ level_marked c.stuck_at.at_0 c.stuck_at.at_1 f
   unfolding is_marked
   level_is e = choice-true (eq-eqb f.class 1 e) _ _
 
@@ -49,8 +45,8 @@ module _ (c : Coverage) (f : Fault) where
 -- ---- a coverage has a word for each level and gate that a circuit can have
 
 pub record Sized (c : Coverage) : Type 0 where
-  pub stuck_0 : length c.stuck_at_0 ≡ levels
-  pub stuck_1 : length c.stuck_at_1 ≡ levels
+  pub stuck_0 : length c.stuck_at.at_0 ≡ levels
+  pub stuck_1 : length c.stuck_at.at_1 ≡ levels
   pub gates : length c.missing_gates ≡ most_gates
   pub controls : length c.missing_controls ≡ most_gates
   pub extras : length c.extra_controls ≡ most_gates
@@ -68,8 +64,8 @@ empty_sized = record {
 pub sized_more : (c : Coverage) (n : ℕ) (gs : List Gate) (x : ℕ) → Sized c → Sized (with_vector c n gs x)
 unfolding with_vector
 sized_more c n gs x size = record {
-  stuck_0 = marked-length c.stuck_at_0 (level_marks n gs 0 x) ∙ size.stuck_0;
-  stuck_1 = marked-length c.stuck_at_1 (level_marks n gs 1 x) ∙ size.stuck_1;
+  stuck_0 = marked-length c.stuck_at.at_0 (level_marks n gs 0 x) ∙ size.stuck_0;
+  stuck_1 = marked-length c.stuck_at.at_1 (level_marks n gs 1 x) ∙ size.stuck_1;
   gates = marked-length c.missing_gates (gate_marks n gs 2 x) ∙ size.gates;
   controls = marked-length c.missing_controls (gate_marks n gs 3 x) ∙ size.controls;
   extras = marked-length c.extra_controls (gate_marks n gs 4 x) ∙ size.extras;
@@ -86,13 +82,13 @@ with_all_list list marks n gs one c [] = refl
 with_all_list list marks n gs one c (x ∷ xs) = with_all_list list marks n gs one (with_vector c n gs x) xs ∙ ap (λ ws. mark_all ws marks xs) (one c x)
 
 module _ (n : ℕ) (gs : List Gate) where
-  pub with_all_stuck_0 : (c : Coverage) (xs : List ℕ) → (with_all c n gs xs).stuck_at_0 ≡ mark_all c.stuck_at_0 (level_marks n gs 0) xs
+  pub with_all_stuck_0 : (c : Coverage) (xs : List ℕ) → (with_all c n gs xs).stuck_at.at_0 ≡ mark_all c.stuck_at.at_0 (level_marks n gs 0) xs
   unfolding with_vector
-  with_all_stuck_0 = with_all_list (λ c. c.stuck_at_0) (level_marks n gs 0) n gs (λ c x. refl)
+  with_all_stuck_0 = with_all_list (λ c. c.stuck_at.at_0) (level_marks n gs 0) n gs (λ c x. refl)
 
-  pub with_all_stuck_1 : (c : Coverage) (xs : List ℕ) → (with_all c n gs xs).stuck_at_1 ≡ mark_all c.stuck_at_1 (level_marks n gs 1) xs
+  pub with_all_stuck_1 : (c : Coverage) (xs : List ℕ) → (with_all c n gs xs).stuck_at.at_1 ≡ mark_all c.stuck_at.at_1 (level_marks n gs 1) xs
   unfolding with_vector
-  with_all_stuck_1 = with_all_list (λ c. c.stuck_at_1) (level_marks n gs 1) n gs (λ c x. refl)
+  with_all_stuck_1 = with_all_list (λ c. c.stuck_at.at_1) (level_marks n gs 1) n gs (λ c x. refl)
 
   pub with_all_gates : (c : Coverage) (xs : List ℕ) → (with_all c n gs xs).missing_gates ≡ mark_all c.missing_gates (gate_marks n gs 2) xs
   unfolding with_vector
@@ -122,7 +118,7 @@ module _ (c : Coverage) (n : ℕ) (gs : List Gate) (x : ℕ) (f : Fault) (marked
   pub stays_marked : is_marked (with_vector c n gs x) f ≡ true
   unfolding with_vector next
   stays_marked = by_equal f.class 1
-      (λ e. level_is next f e ∙ level_marked_stays c.stuck_at_0 c.stuck_at_1 _ _ f (sym (level_is c f e) ∙ marked-before))
+      (λ e. level_is next f e ∙ level_marked_stays c.stuck_at.at_0 c.stuck_at.at_1 _ _ f (sym (level_is c f e) ∙ marked-before))
       (λ a. by_equal f.class 2
       (λ e. gates_is next f e ∙ gate_marked_stays c.missing_gates _ f (sym (gates_is c f e) ∙ marked-before))
       (λ b. by_equal f.class 3

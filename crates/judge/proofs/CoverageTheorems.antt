@@ -1,15 +1,15 @@
 -- What a coverage means: the theorems about its marks and its count, for every circuit, vector and fault.
-use Prim.Native.Nat.{ℕ}
-use mathlib.Core.Path.{◌≡◌, refl, sym, ap, ◌∙◌}
-use mathlib.Core.Bool.{true, false, ◌&&◌, ◌||◌, or-false, false≢true}
-use mathlib.Core.List.{List, [], ◌∷◌}
+use Rattle.std.specs.Prelude.{ℕ, ◌≡◌, refl, true, false, ◌&&◌, ◌||◌, List, [], ◌∷◌}
+use Rattle.std.proofs.Common.{sym, ap, ◌∙◌}
+use Rattle.std.proofs.lemmas.Bool.{false≢true}
+use mathlib.Core.Bool.{or-false}
 use Rattle.basics.specs.Lists.{some}
 use Rattle.basics.proofs.Tests.{and_both}
 use Rattle.basics.proofs.All.{all_map}
 use Rattle.refusals.specs.Tables.{Row, first_of, after}
 use Rattle.refusals.specs.Tables.Row.{refuse◌at◌when◌}
-use Rattle.refusals.specs.Checks.{fine}
-use Rattle.refusals.proofs.Tables.{fine-all}
+use Rattle.refusals.specs.Answers.{fine}
+use Rattle.refusals.proofs.Tables.{fine_all}
 use Rattle.circuit.specs.Gates.{gates_of}
 use Rattle.circuit.specs.Sound.{Sound}
 use Rattle.circuit.proofs.RuleLaws.{vector_ok}
@@ -75,7 +75,8 @@ module _ (c : Coverage) (n : ℕ) (words : List ℕ) (x : ℕ) where
 
   -- and a coverage keeps its size
   pub size_stays : Sized c → Sized (with_vector_gives c n words x)
-  size_stays size = after_either Sized (add_rows n words x) (with_vector c n (gates_of words) x) c (λ passed. sized_more c n (gates_of words) x size) size
+  size_stays size =
+      after_either Sized (add_rows n words x) (with_vector c n (gates_of words) x) c (λ passed. sized_more c n (gates_of words) x size) size
 
 -- ---- counts
 
@@ -91,6 +92,6 @@ own_marks_count n words class c d same =
 pub count_is_judge : (n : ℕ) (words xs : List ℕ) (class : ℕ) → fine ≡ first_of (judge_rows n words xs class) fine
     → count_tells (with_all empty_coverage n (gates_of words) xs) n words class ≡ judge_tells n words xs class
 count_is_judge n words xs class passed =
-    sym (fine-all (count_rows n words class) _ (count_passes n words xs class passed))
+    sym (fine_all (count_rows n words class) _ (count_passes n words xs class passed))
     ∙ judge_is_coverage n words xs (judge_ok n words xs class passed).set.set.circuit class
-    ∙ fine-all (judge_rows n words xs class) _ passed
+    ∙ fine_all (judge_rows n words xs class) _ passed

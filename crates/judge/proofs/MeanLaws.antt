@@ -1,11 +1,6 @@
 -- What a mark of a coverage means: the fault was marked before, or the circuit has it and some vector catches it.
-use Prim.Native.Nat.{ℕ}
-use mathlib.Core.Path.{◌≡◌, sym, ap, ap₂, ◌∙◌}
-use mathlib.Core.Logic.{◌≢◌}
-use mathlib.Core.Bool.{Bool, ◌&&◌, ◌||◌}
-use mathlib.Core.List.{List}
-use native.Mathlib.Omega.{arith}
-use lib.ListN.{length}
+use Rattle.std.specs.Prelude.{ℕ, ◌≡◌, ◌≢◌, Bool, ◌&&◌, ◌||◌, List, length}
+use Rattle.std.proofs.Common.{sym, ap, ap₂, ◌∙◌, arith}
 use Rattle.basics.proofs.Tests.{by_equal}
 use Rattle.circuit.specs.Gates.{gates_of}
 use Rattle.circuit.specs.Limits.{most_gates}
@@ -32,8 +27,9 @@ module _ (n : ℕ) (words : List ℕ) (ok : Sound n words) (xs : List ℕ) (c : 
   level_mean : f.class ≡ 1 → is_marked last f ≡ (is_marked c f || Caught)
   unfolding Caught last caught_by_some
   level_mean e =
-      level_is last f e ∙ ap₂ (λ at0 at1. level_marked at0 at1 f) (with_all_stuck_0 n (gates_of words) c xs) (with_all_stuck_1 n (gates_of words) c xs)
-      ∙ level_marked-all n words ok c.stuck_at_0 c.stuck_at_1 xs f e (omega arith) (omega arith)
+      level_is last f e
+      ∙ ap₂ (λ at0 at1. level_marked at0 at1 f) (with_all_stuck_0 n (gates_of words) c xs) (with_all_stuck_1 n (gates_of words) c xs)
+      ∙ level_marked-all n words ok c.stuck_at.at_0 c.stuck_at.at_1 xs f e (omega arith) (omega arith)
       ∙ ap (λ b. b || Caught) (sym (level_is c f e))
 
   -- a class of gate faults, whose marks one list has
@@ -45,7 +41,8 @@ module _ (n : ℕ) (words : List ℕ) (ok : Sound n words) (xs : List ℕ) (c : 
       is last ∙ ap (λ ws. gate_marked ws f) all ∙ gate_marked-all n words ok (list c) xs class f e other (omega arith)
       ∙ ap (λ b. b || Caught) (sym (is c))
 
-  pub mark_mean : is_marked (with_all c n (gates_of words) xs) f ≡ (is_marked c f || (is_fault n (gates_of words) f && caught_by_some (gates_of words) xs f))
+  pub mark_mean : is_marked (with_all c n (gates_of words) xs) f
+      ≡ (is_marked c f || (is_fault n (gates_of words) f && caught_by_some (gates_of words) xs f))
   unfolding Caught last
   mark_mean = by_equal f.class 1 level_mean (λ a. by_equal f.class 2
       (λ e. gate_mean (λ d. d.missing_gates) 2 e (λ q. omega arith) size.gates (λ d. gates_is d f e) (with_all_gates n (gates_of words) c xs))

@@ -1,8 +1,6 @@
 -- The order of the vectors of a set, and repeats among them, change no verdict.
-use Prim.Native.Nat.{ℕ}
-use mathlib.Core.Path.{◌≡◌, refl, sym, ◌∙◌}
-use mathlib.Core.List.{List, ◌∷◌}
-use lib.ListN.{length}
+use Rattle.std.specs.Prelude.{ℕ, ◌≡◌, refl, List, ◌∷◌, length}
+use Rattle.std.proofs.Common.{sym, ◌∙◌}
 use Rattle.refusals.specs.Tables.Told.{answered}
 use Rattle.circuit.specs.declared.Gate.{Gate}
 use Rattle.faults.specs.declared.Fault.{Fault}

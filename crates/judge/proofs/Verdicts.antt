@@ -1,10 +1,8 @@
 -- Laws of verdicts: what is caught and what is not, of any list of faults and any vectors.
-use Prim.Native.Nat.{ℕ}
-use mathlib.Core.Path.{◌≡◌, ap}
-use mathlib.Core.Logic.{◌↔◌}
-use mathlib.Core.Bool.{true, not}
-use mathlib.Core.List.{List, [], Memᴰ}
-use borrow.Author.Tests.{not-false}
+use Rattle.std.specs.Prelude.{ℕ, ◌≡◌, ◌↔◌, true, not, List, []}
+use Rattle.std.proofs.Common.{ap}
+use Rattle.std.proofs.lemmas.Bool.{not-false}
+use mathlib.Core.List.{Memᴰ}
 use Rattle.basics.specs.Lists.{All}
 use Rattle.basics.proofs.All.{all_map}
 use Rattle.basics.proofs.Lists.{keep-cong, keep_none, none_kept, some_entry, entry_some}

@@ -3,3 +3,4 @@ pub mod Coverages
 pub mod Rules
 pub mod Promises
 pub mod Answers
+pub mod Added

@@ -1,7 +1,7 @@
 -- What each public call of this crate tells: the first rule of its table that is broken, or else the answer; and the coverage that is handed back.
 use Rattle.std.specs.Prelude.{ℕ, List}
 use Rattle.refusals.specs.Tables.{Told, first_of, after}
-use Rattle.refusals.specs.Checks.{fine}
+use Rattle.refusals.specs.Answers.{fine}
 use Rattle.circuit.specs.Gates.{gates_of}
 use Rattle.faults.specs.Classes.{class_faults}
 use Rattle.judge.specs.Coverages.{with_vector, is_marked}

@@ -2,39 +2,34 @@
 #![tactic(auto)]
 
 ghost use Rattle.std.specs.Prelude.{◌≡◌};
+ghost use Rattle.refusals.specs.Answers.{told};
 ghost use Rattle.judge.specs.Promises.{judge_tells};
-ghost use Rattle.judge.specs.Answers.{told_verdict};
+ghost use Rattle.judge.specs.Answers.{verdict_values};
 
+use circuit::rules::check_set;
 use faults::Fault;
-use refusals::{Checked, Refusal};
+use faults::rules::check_class;
+use refusals::Refusal;
 
 pub mod checked;
 pub mod coverage;
 pub mod covering;
-mod rules;
 mod tallies;
 
-// The verdict on a set for a class.
+// The verdict on a set for a class: how many of its faults are caught, how many it has, and the first that is not caught.
 #[derive(Clone, Copy)]
-pub enum Verdict {
-    Complete {
-        caught: u32,
-        total: u32,
-    },
-    Left {
-        caught: u32,
-        total: u32,
-        first: Fault,
-    },
-    Refused(Refusal),
+pub struct Verdict {
+    pub caught: u32,
+    pub total: u32,
+    pub first: Option<Fault>,
 }
 
-// Judges a set for a class: how many of its faults some vector catches, how many there are, and the first that none catches.
-pub fn judge(lines: u32, gates: &[u32], vectors: &[u32], class: u32) -> Verdict
-    ensures { told_verdict result ≡ judge_tells lines gates.now vectors.now class }
+// Judges a set for a class: which of its faults some vector catches.
+#[tactic(auto, using(crate::proofs::RuleLaws::checks), unfolding(crate::specs::Rules::judge_rows))]
+pub fn judge(lines: u32, gates: &[u32], vectors: &[u32], class: u32) -> Result<Verdict, Refusal>
+    ensures { told verdict_values result ≡ judge_tells lines gates.now vectors.now class }
 {
-    match rules::check_judge(lines, gates, vectors, class) {
-        Checked::Wrong(refusal) => Verdict::Refused(refusal),
-        Checked::Fine => checked::judge_class(lines, gates, vectors, class),
-    }
+    let circuit = check_set(lines, gates, vectors)?;
+    let class = check_class(class)?;
+    Ok(checked::judge_class(&circuit, vectors, class))
 }

@@ -1,63 +1,42 @@
 // Verdicts on marks.
-ghost use Rattle.std.specs.Prelude.{◌≡◌, ◌∷◌, ◌≤◌};
+ghost use Rattle.std.specs.Prelude.{◌≡◌};
 ghost use Rattle.refusals.specs.Tables.Told.{answered};
-ghost use Rattle.circuit.specs.Gates.{gates_of};
-ghost use Rattle.circuit.specs.Sound.{Sound};
+ghost use Rattle.circuit.specs.Checked.{gates_in};
 ghost use Rattle.faults.specs.Classes.{class_faults};
+ghost use Rattle.faults.specs.Kinds.{gate_class_number};
 ghost use Rattle.marking.specs.Marks.{level_marked, gate_marked};
-ghost use Rattle.marking.specs.Firsts.{told_first};
 ghost use Rattle.judge.specs.Judging.{verdict};
-ghost use Rattle.judge.specs.Answers.{told_verdict};
+ghost use Rattle.judge.specs.Answers.{verdict_values};
 
 use crate::Verdict;
-use circuit::limits::{LEVELS, MOST_GATES};
-use marking::{First, counts};
+use circuit::checked::Circuit;
+use circuit::limits::MOST_GATES;
+use faults::classes::GateClass;
+use marking::counts;
+use marking::marks::LevelMarks;
 
-// A verdict from its parts.
-fn verdict_of(caught: u32, total: u32, first: First) -> Verdict
-    ensures { told_verdict result ≡ answered (caught ∷ total ∷ told_first first) }
+// The verdict on marks for class 1.
+#[tactic(auto, using(faults::proofs::ClassLists::list_one), unfolding(crate::specs::Judging::verdict))]
+pub fn tally_levels(circuit: &Circuit, marks: &LevelMarks) -> Verdict
+    ensures { answered (verdict_values result) ≡ verdict (level_marked marks.now.at_0 marks.now.at_1)
+        (class_faults circuit.now.lines (gates_in circuit.now) 1) }
 {
-    match first {
-        First::None => Verdict::Complete { caught, total },
-        First::Uncaught(fault) => Verdict::Left {
-            caught,
-            total,
-            first: fault,
-        },
+    Verdict {
+        caught: counts::count_levels(circuit, marks),
+        total: counts::total_levels(circuit),
+        first: counts::first_levels(circuit, marks),
     }
 }
 
-// The verdict on marks for class 1.
-pub fn tally_levels<'a>(
-    lines: u32,
-    gates: &[u32],
-    at_0: &'a [u32; LEVELS],
-    at_1: &'a [u32; LEVELS],
-) -> Verdict
-    requires { Sound lines gates.now }
-    ensures { told_verdict result ≡ verdict (level_marked at_0.now at_1.now)
-        (class_faults lines (gates_of gates.now) 1) }
-{
-    let caught = counts::count_levels(lines, gates, at_0, at_1);
-    let total = counts::total_levels(lines, gates);
-    verdict_of(
-        caught,
-        total,
-        counts::first_levels(lines, gates, at_0, at_1),
-    )
-}
-
 // The verdict on marks for a class of gate faults.
-pub fn tally_gates(class: u32, lines: u32, gates: &[u32], marks: &[u32; MOST_GATES]) -> Verdict
-    requires sound { Sound lines gates.now }
-    requires le_class { 2 ≤ class }
-    ensures { told_verdict result ≡ verdict (gate_marked marks.now) (class_faults lines (gates_of gates.now) class) }
+#[tactic(auto, unfolding(crate::specs::Judging::verdict))]
+pub fn tally_gates(class: GateClass, circuit: &Circuit, marks: &[u32; MOST_GATES]) -> Verdict
+    ensures { answered (verdict_values result) ≡ verdict (gate_marked marks.now)
+        (class_faults circuit.now.lines (gates_in circuit.now) (gate_class_number class)) }
 {
-    let caught = counts::count_gates(class, lines, gates, marks);
-    let total = counts::total_gates(class, lines, gates);
-    verdict_of(
-        caught,
-        total,
-        counts::first_gates(class, lines, gates, marks),
-    )
+    Verdict {
+        caught: counts::count_gates(class, circuit, marks),
+        total: counts::total_gates(class, circuit),
+        first: counts::first_gates(class, circuit, marks),
+    }
 }

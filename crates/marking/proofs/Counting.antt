@@ -1,11 +1,6 @@
 -- Faults counted and searched by place, as loops go: a test on the faults of a class, level by level or gate by gate.
-use Prim.Native.Nat.{ℕ, suc, ◌+◌, ◌-◌, ◌≤◌, ◌<◌}
-use mathlib.Core.Path.{◌≡◌, refl, sym, ap, ap₂, ◌∙◌}
-use mathlib.Core.Bool.{Bool}
-use mathlib.Core.List.{List, [], ◌∷◌, ◌++◌}
-use native.Mathlib.Numerals.{add-one}
-use native.Mathlib.Omega.{arith}
-use lib.ListN.{length}
+use Rattle.std.specs.Prelude.{ℕ, suc, ◌+◌, ◌-◌, ◌≤◌, ◌<◌, ◌≡◌, refl, Bool, List, [], ◌∷◌, ◌++◌, length}
+use Rattle.std.proofs.Common.{sym, ap, ap₂, ◌∙◌, add-one, arith}
 use Rattle.basics.specs.Lists.{up_from, keep, each, All}
 use Rattle.basics.specs.Sums.{sum_from}
 use Rattle.basics.proofs.ListMore.{keep_append, keep-each, count_two}
@@ -21,11 +16,6 @@ pub each_agree : (f g : ℕ → List Fault) (places : List ℕ) → All (λ i. f
 unfolding each
 each_agree f g [] same = refl
 each_agree f g (i ∷ places) same = ap₂ ◌++◌ same.0 (each_agree f g places same.1)
-
-pub each_none : (f : ℕ → List Fault) (places : List ℕ) → All (λ i. f i ≡ []) places → each f places ≡ []
-unfolding each
-each_none f [] none = refl
-each_none f (i ∷ places) none = ap₂ ◌++◌ none.0 (each_none f places none.1)
 
 -- ---- counts
 

@@ -1,14 +1,11 @@
 -- What marks mean: a mark that a vector adds stands for a fault that the circuit has and the vector catches, and for nothing else.
-use Prim.Native.Nat.{ℕ, zero, suc, ◌-◌, ◌≤◌, ◌<◌}
-use mathlib.Core.Path.{◌≡◌, refl, sym, ap, ◌∙◌}
-use mathlib.Core.Logic.{◌≢◌, by_cases}
-use mathlib.Core.Bool.{Bool, true, false, ◌&&◌, ◌||◌, or-false, or_assoc, and-false, and-or_distrib_left, false≢true}
-use mathlib.Core.List.{List, [], ◌∷◌}
+use Rattle.std.specs.Prelude.{ℕ, zero, suc, ◌-◌, ◌≤◌, ◌<◌, ◌≡◌, refl, ◌≢◌, Bool, true, false, ◌&&◌, ◌||◌}
+use Rattle.std.specs.Prelude.{List, [], ◌∷◌, length, get_or, replicate, leb, eqb}
+use Rattle.std.proofs.Common.{sym, ap, ◌∙◌, arith, ne_eqb, eq-eqb, le-leb}
+use Rattle.std.proofs.lemmas.Bool.{false≢true, lt-leb}
+use mathlib.Core.Logic.{by_cases}
+use mathlib.Core.Bool.{or-false, or_assoc, and-false, and-or_distrib_left}
 use native.Mathlib.Decide.{dec_le}
-use native.Mathlib.Omega.{arith}
-use lib.ListN.{length, get_or, replicate}
-use lib.Dec.{leb, eqb}
-use borrow.Author.Tests.{ne_eqb, eq-eqb, le-leb, lt-leb}
 use Rattle.basics.specs.Lists.{some}
 use Rattle.basics.proofs.Tests.{by_test, by_equal, and-true, and_both}
 use Rattle.words.specs.Word.{bit}
@@ -83,7 +80,8 @@ module _ (n : ℕ) (words : List ℕ) (ok : Sound n words) where
   none_caught f x never = by_test (is_fault n (gates_of words) f) (λ is. absurd (never is)) (λ e. ap (λ b. b && caught (gates_of words) f x) e)
 
   -- each line of the marks
-  on_caught_lines : (class value x i j : ℕ) → eqb (bit (caught_lines n (gates_of words) class value x i) j) 1 ≡ Catches (fault_of class i j value) x
+  on_caught_lines : (class value x i j : ℕ)
+      → eqb (bit (caught_lines n (gates_of words) class value x i) j) 1 ≡ Catches (fault_of class i j value) x
   unfolding caught_lines Catches fault_of
   on_caught_lines class value x i j =
       let test : ℕ → Bool = λ line. Catches (fault_of class i line value) x in
@@ -108,7 +106,8 @@ module _ (n : ℕ) (words : List ℕ) (ok : Sound n words) where
         ∙ ap (λ b. is_on ws i j || b) (ap (λ w. eqb (bit w j) 1) (level_mark_at n (gates_of words) v x i h) ∙ on_caught_lines 1 v x i j))
         (λ past. on_past ws ms i j (omega arith)
         ∙ sym (ap (λ b. is_on ws i j || b)
-        (none_caught (fault_of 1 i j v) x (λ is. omega (arith, (stuck_fault n words (fault_of 1 i j v) ok is refl).place_in))) ∙ or-false (is_on ws i j)))
+        (none_caught (fault_of 1 i j v) x (λ is. omega (arith, (stuck_fault n words (fault_of 1 i j v) ok is refl).place_in)))
+        ∙ or-false (is_on ws i j)))
 
     -- and the marks of a class at each gate
     gate_on : (ws : List ℕ) (class i j : ℕ) → class ≢ 1 → length (gates_of words) ≤ length ws → 1 ≤ i

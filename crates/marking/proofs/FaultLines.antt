@@ -1,13 +1,7 @@
 -- Which lines of a level or a gate have a fault: the sites of a level, line 0 for the gate itself, its controls, its other lines.
-use Prim.Native.Nat.{ℕ, zero, suc, ◌+◌, ◌*◌, ◌^◌, ◌≤◌, ◌<◌}
-use mathlib.Core.Path.{◌≡◌, ap, ◌∙◌}
-use mathlib.Core.Logic.{◌≢◌}
-use mathlib.Core.Bool.{false, and-true}
-use mathlib.Core.List.{List}
-use native.Mathlib.Omega.{arith}
-use lib.ListN.{length}
-use lib.Dec.{eqb}
-use borrow.Author.Tests.{ne_eqb, le-leb, lt-ltb}
+use Rattle.std.specs.Prelude.{ℕ, zero, suc, ◌+◌, ◌*◌, ◌^◌, ◌≤◌, ◌<◌, ◌≡◌, List, length, eqb}
+use Rattle.std.proofs.Common.{ap, ◌∙◌, arith, ne_eqb, le-leb, lt-ltb}
+use mathlib.Core.Bool.{and-true}
 use Rattle.words.specs.Word.{bit}
 use Rattle.words.specs.WordOf.{word_of}
 use Rattle.words.proofs.WordOfLaws.{word_of-lt, word_of-cong, word_of_none}
@@ -17,7 +11,6 @@ use Rattle.circuit.specs.declared.Gate.{Gate}
 use Rattle.faults.specs.Classes.{fault_of}
 use Rattle.faults.specs.Rules.{is_stuck_at, is_gate, is_missing_gate, is_missing_control, is_extra_control, is_fault}
 use Rattle.faults.specs.Sites.{sites}
-use Rattle.faults.proofs.RuleLaws.{class_none}
 use Rattle.marking.specs.Tallies.{gate_lines}
 
 -- the word of line 0
@@ -31,11 +24,6 @@ module _ (n : ℕ) (gs : List Gate) where
   pub stuck_here : (i j v : ℕ) → i ≤ length gs → v ≤ 1 → is_fault n gs (fault_of 1 i j v) ≡ eqb (bit (sites n gs i) j) 1
   unfolding fault_of is_fault is_stuck_at
   stuck_here i j v h u = rw (le-leb i (length gs) h, le-leb v 1 u) (and-true (eqb (bit (sites n gs i) j) 1))
-
-  -- a class that there is not has none
-  pub none_here : (class i j v : ℕ) → class ≢ 1 → class ≢ 2 → class ≢ 3 → class ≢ 4 → is_fault n gs (fault_of class i j v) ≡ false
-  unfolding fault_of
-  none_here class i j v = class_none n gs (fault_of class i j v)
 
   module _ (i : ℕ) (lo : 1 ≤ i) (hi : i ≤ length gs) where
     -- class 2: at a gate, line 0
@@ -54,21 +42,17 @@ module _ (n : ℕ) (gs : List Gate) where
     other_here j h = rw (le-leb 1 i lo, le-leb i (length gs) hi, lt-ltb j n h) (and-true (is_other (gate_at gs i) j))
 
     -- the same as words
-    pub lines_two : (class : ℕ) → class ≡ 2 → 1 ≤ n → gate_lines n gs class i ≡ 1
+    pub lines_two : 1 ≤ n → gate_lines n gs 2 i ≡ 1
     unfolding gate_lines
-    lines_two class e some = rw e (word_of-cong n _ (λ j. eqb j 0) (λ j h. gate_here j) ∙ line-zero n some)
+    lines_two some = word_of-cong n _ (λ j. eqb j 0) (λ j h. gate_here j) ∙ line-zero n some
 
-    pub lines_three : (class : ℕ) → class ≡ 3 → gate_lines n gs class i ≡ word_of n (is_control (gate_at gs i))
+    pub lines_three : gate_lines n gs 3 i ≡ word_of n (is_control (gate_at gs i))
     unfolding gate_lines
-    lines_three class e = rw e (word_of-cong n _ (is_control (gate_at gs i)) (λ j h. control_here j))
+    lines_three = word_of-cong n _ (is_control (gate_at gs i)) (λ j h. control_here j)
 
-    pub lines_four : (class : ℕ) → class ≡ 4 → gate_lines n gs class i ≡ word_of n (is_other (gate_at gs i))
+    pub lines_four : gate_lines n gs 4 i ≡ word_of n (is_other (gate_at gs i))
     unfolding gate_lines
-    lines_four class e = rw e (word_of-cong n _ (is_other (gate_at gs i)) other_here)
-
-  pub lines_none : (class i : ℕ) → class ≢ 1 → class ≢ 2 → class ≢ 3 → class ≢ 4 → gate_lines n gs class i ≡ 0
-  unfolding gate_lines
-  lines_none class i a b c d = word_of_none n _ (λ j h. none_here class i j 0 a b c d)
+    lines_four = word_of-cong n _ (is_other (gate_at gs i)) other_here
 
   -- the word of a gate is one of n lines
   pub gate_lines-lt : (class i : ℕ) → gate_lines n gs class i < 2 ^ n

@@ -1,14 +1,8 @@
 -- The first unmarked fault, as loops find it: at each level or gate the lowest line that a word lacks.
-use Prim.Native.Nat.{ℕ, suc, ◌+◌, ◌-◌, ◌^◌, ◌≤◌, ◌<◌}
-use mathlib.Core.Path.{◌≡◌, refl, sym, ap, ◌∙◌}
-use mathlib.Core.Logic.{◌≢◌}
-use mathlib.Core.Bool.{Bool, true, false, not, ◌&&◌, ◌||◌}
-use mathlib.Core.List.{List, [], ◌∷◌, ◌++◌}
-use native.Mathlib.Omega.{arith}
-use lib.ListN.{length, get_or, drop}
-use lib.Bits.{bit_or}
-use lib.Dec.{eqb}
-use borrow.Author.Tests.{eqb-true, eqb-false, eq-eqb}
+use Rattle.std.specs.Prelude.{ℕ, suc, ◌+◌, ◌-◌, ◌^◌, ◌≤◌, ◌<◌, ◌≡◌, ◌≢◌, refl, Bool, true, false, not, ◌&&◌, ◌||◌}
+use Rattle.std.specs.Prelude.{List, [], ◌∷◌, ◌++◌, length, get_or, drop, eqb, bit_or}
+use Rattle.std.proofs.Common.{sym, ap, ◌∙◌, arith, eqb-true, eq-eqb}
+use Rattle.std.proofs.lemmas.Bool.{eqb-false}
 use Rattle.basics.specs.Choice.{choice}
 use Rattle.basics.specs.Lists.{up_from, keep, each}
 use Rattle.basics.proofs.Tests.{by_test, and_both, or_neither}
@@ -25,6 +19,8 @@ use Rattle.faults.specs.Sites.{sites}
 use Rattle.faults.specs.declared.Fault.{Fault}
 use Rattle.faults.proofs.SiteLaws.{sites-lt}
 use Rattle.faults.specs.Classes.{fault_of, stuck_faults, class_faults}
+use Rattle.faults.specs.Kinds.{gate_class_number}
+use Rattle.faults.specs.declared.classes.GateClass.{GateClass}
 use Rattle.marking.specs.Marks.{level_marked, gate_marked}
 use Rattle.marking.specs.Firsts.{first_told}
 use Rattle.marking.specs.Tallies.{gate_lines}
@@ -85,15 +81,17 @@ abbrev pub gate_lacks : ℕ → List Gate → ℕ → List ℕ → ℕ → ℕ
 gate_lacks n gs class ws i = lacking (gate_lines n gs class (i + 1)) (get_or ws i 0)
 
 -- from the first gate on it is the whole class
-pub gates_start : (n : ℕ) (gs : List Gate) (class : ℕ) (ws : List ℕ) (e : ℕ) → 1 ≤ n → 2 ≤ class → e ≡ length gs
-    → keep (gate_left ws) (class_faults n gs class) ≡ keep (gate_left ws) (each (gate_place n gs class) (up_from (0 + 1) (e + 1 - (0 + 1))))
-gates_start n gs class ws e some lo q =
-    let k : length gs ≡ e + 1 - (0 + 1) = omega arith in
-    ap (keep (gate_left ws)) (class_places n gs class some lo ∙ ap (λ m. each (gate_place n gs class) (up_from 1 m)) k)
+pub gates_start : (n : ℕ) (gs : List Gate) (class : GateClass) (ws : List ℕ) → 1 ≤ n
+    → keep (gate_left ws) (class_faults n gs (gate_class_number class))
+    ≡ keep (gate_left ws) (each (gate_place n gs (gate_class_number class)) (up_from (0 + 1) (length gs + 1 - (0 + 1))))
+gates_start n gs class ws some =
+    let k : length gs ≡ length gs + 1 - (0 + 1) = omega arith in
+    ap (keep (gate_left ws)) (class_places n gs class some ∙ ap (λ m. each (gate_place n gs (gate_class_number class)) (up_from 1 m)) k)
 
 module _ (n : ℕ) (gs : List Gate) (class : ℕ) (ws : List ℕ) (i e : ℕ) (h : i < e) where
   -- one fault at each such line
-  gate-left : keep (gate_left ws) (gate_place n gs class (i + 1)) ≡ each (λ j. fault_of class (i + 1) j 0 ∷ []) (lines_on n (gate_lacks n gs class ws i))
+  gate-left : keep (gate_left ws) (gate_place n gs class (i + 1))
+      ≡ each (λ j. fault_of class (i + 1) j 0 ∷ []) (lines_on n (gate_lacks n gs class ws i))
   gate-left =
       let mask : ℕ = gate_lines n gs class (i + 1) in
       keep_ones (gate_left ws) (λ j. fault_of class (i + 1) j 0) (lines_on n mask)
@@ -133,11 +131,11 @@ abbrev pub level_lacks : ℕ → List Gate → List ℕ → ℕ → ℕ
 level_lacks n gs ws i = lacking (sites n gs i) (get_or ws i 0)
 
 -- from level 0 on it is the whole class
-pub levels-start : (n : ℕ) (gs : List Gate) (at0 at1 : List ℕ) (e : ℕ) → e ≡ length gs + 1
-    → keep (level_left at0 at1) (stuck_faults n gs) ≡ keep (level_left at0 at1) (each (level_place n gs) (up_from 0 (e - 0)))
+pub levels-start : (n : ℕ) (gs : List Gate) (at0 at1 : List ℕ)
+    → keep (level_left at0 at1) (stuck_faults n gs) ≡ keep (level_left at0 at1) (each (level_place n gs) (up_from 0 (length gs + 1 - 0)))
 unfolding stuck_faults
-levels-start n gs at0 at1 e q =
-    let k : suc (length gs) ≡ e - 0 = omega arith in
+levels-start n gs at0 at1 =
+    let k : suc (length gs) ≡ length gs + 1 - 0 = omega arith in
     ap (λ m. keep (level_left at0 at1) (each (level_place n gs) (up_from 0 m))) k
 
 -- at a line that lacks in one of two words, the value is 0 where it lacks in the first, and else 1

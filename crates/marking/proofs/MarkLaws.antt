@@ -1,22 +1,14 @@
 -- Laws of the marks of one vector: the lines at which it catches a fault of the circuit, as words that code computes.
-use Prim.Native.Nat.{ℕ, ◌-◌, ◌≤◌, ◌<◌}
-use mathlib.Core.Path.{◌≡◌, refl, sym, ap, ap₂, ◌∙◌, subst}
-use mathlib.Core.Logic.{◌≢◌}
-use mathlib.Core.Bool.{Bool, not, ◌&&◌, and_comm, and_assoc, and_self_left}
-use mathlib.Core.List.{List}
-use native.Mathlib.Omega.{arith}
-use lib.Bits.{bit_and}
-use lib.ListN.{length}
-use lib.Dec.{eqb}
-use borrow.Author.Tests.{ne_eqb}
+use Rattle.std.specs.Prelude.{ℕ, ◌-◌, ◌≤◌, ◌<◌, ◌≡◌, refl, Bool, not, ◌&&◌, List, length, eqb, bit_and}
+use Rattle.std.proofs.Common.{sym, ap, ap₂, ◌∙◌, arith}
+use mathlib.Core.Bool.{and_comm, and_assoc, and_self_left}
 use Rattle.basics.specs.Choice.{choice}
-use Rattle.basics.proofs.Tests.{by_equal, choice-false}
 use Rattle.words.specs.Word.{bit}
 use Rattle.words.specs.WordOf.{word_of, lacking}
 use Rattle.words.proofs.AndLaws.{and_lt, lacking-lt, on_lacking}
 use Rattle.words.proofs.Inverse.{not_off, not_on}
 use Rattle.words.proofs.OrLaws.{on_and}
-use Rattle.words.proofs.WordOfLaws.{word_is, word_of-cong, word_of_none, word_of-when, on_word_of, word_of-lt}
+use Rattle.words.proofs.WordOfLaws.{word_is, word_of-cong, word_of-when, on_word_of, word_of-lt}
 use Rattle.circuit.specs.Gates.{gate_at}
 use Rattle.circuit.specs.Controls.{is_control, less_control, is_other, stops, stopping}
 use Rattle.circuit.specs.Runs.{fires, forward}
@@ -27,35 +19,34 @@ use Rattle.circuit.proofs.StopLaws.{stops-zero}
 use Rattle.simulator.proofs.FaultyLaws.{stuck_caught, missing_gate_caught}
 use Rattle.simulator.proofs.UnchangedLaws.{missing_stops, extra_caught}
 use Rattle.faults.specs.Classes.{fault_of}
+use Rattle.faults.specs.Kinds.{gate_class_number}
+use Rattle.faults.specs.declared.classes.GateClass.{GateClass}
+use Rattle.faults.specs.declared.classes.GateClass.TheVariants.{MissingGate, MissingControl, ExtraControl}
 use Rattle.faults.specs.Stuck.{StuckOk}
 use Rattle.faults.specs.Sites.{sites}
 use Rattle.faults.proofs.SiteLaws.{sites-lt}
 use Rattle.marking.specs.Marks.{caught_lines, caught_at_gate}
-use Rattle.marking.proofs.FaultLines.{line-zero, stuck_here, none_here, gate_here, control_here, other_here}
+use Rattle.marking.proofs.FaultLines.{line-zero, stuck_here, gate_here, control_here, other_here}
 
 -- ---- what is caught at a gate, as code computes it
 
-module _ (n class : ℕ) (g : Gate) (s : ℕ) where
-  pub fires_word : class ≡ 2 → 1 ≤ n → choice (fires g s) 1 0 ≡ caught_at_gate class n g s
+module _ (n : ℕ) (g : Gate) (s : ℕ) where
+  pub fires_word : 1 ≤ n → choice (fires g s) 1 0 ≡ caught_at_gate 2 n g s
   unfolding caught_at_gate
-  fires_word e some = rw e (sym (word_of-when n (λ line. eqb line 0) (fires g s) ∙ ap (λ w. choice (fires g s) w 0) (line-zero n some)))
+  fires_word some = sym (word_of-when n (λ line. eqb line 0) (fires g s) ∙ ap (λ w. choice (fires g s) w 0) (line-zero n some))
 
-  pub stops_word : class ≡ 3 → stopping n g s ≡ caught_at_gate class n g s
+  pub stops_word : stopping n g s ≡ caught_at_gate 3 n g s
   unfolding caught_at_gate
-  stops_word e = rw e
+  stops_word = refl
 
-  pub extra_word : class ≡ 4 → choice (fires g s) (lacking (word_of n (is_other g)) s) 0 ≡ caught_at_gate class n g s
+  pub extra_word : choice (fires g s) (lacking (word_of n (is_other g)) s) 0 ≡ caught_at_gate 4 n g s
   unfolding caught_at_gate
-  extra_word e = rw e (sym (
+  extra_word = sym (
       word_of-cong n _ (λ j. (is_other g j && eqb (bit s j) 0) && fires g s) (λ j l. sym (and_assoc (is_other g j) (eqb (bit s j) 0) (fires g s)))
       ∙ word_of-when n (λ j. is_other g j && eqb (bit s j) 0) (fires g s)
       ∙ ap (λ w. choice (fires g s) w 0)
       (sym (word_is n (lacking (word_of n (is_other g)) s) _ (lacking-lt n (word_of n (is_other g)) s (word_of-lt n (is_other g))) (λ j l.
-      on_lacking (word_of n (is_other g)) s j ∙ ap₂ ◌&&◌ (on_word_of n (is_other g) j l) (not_on s j))))))
-
-  pub no_word : class ≢ 2 → class ≢ 3 → class ≢ 4 → 0 ≡ caught_at_gate class n g s
-  unfolding caught_at_gate
-  no_word b c d = sym (choice-false (ne_eqb class 2 b) _ _ ∙ choice-false (ne_eqb class 3 c) _ _ ∙ choice-false (ne_eqb class 4 d) _ _)
+      on_lacking (word_of n (is_other g)) s j ∙ ap₂ ◌&&◌ (on_word_of n (is_other g) j l) (not_on s j)))))
 
 -- ---- the marks of a vector
 
@@ -115,15 +106,9 @@ module _ (n : ℕ) (gs : List Gate) (ok : AllOk n gs) (x i : ℕ) where
     unfolding caught_lines caught_at_gate fault_of gate state
     four_is = word_of-cong n _ _ (λ j l. ap₂ ◌&&◌ (other_here n gs i lo hi j l) (extra_caught n gs ok (fault_of 4 i j 0) lo hi x refl))
 
-    none_is : (class : ℕ) → class ≢ 1 → class ≢ 2 → class ≢ 3 → class ≢ 4 → caught_lines n gs class 0 x i ≡ caught_at_gate class n gate state
-    unfolding caught_lines
-    none_is class a b c d =
-        word_of_none n _ (λ j l. ap (λ t. t && caught gs (fault_of class i j 0) x) (none_here n gs class i j 0 a b c d))
-        ∙ no_word n class gate state b c d
-
-    pub gate-caught : (class : ℕ) → class ≢ 1 → caught_lines n gs class 0 x i ≡ caught_at_gate class n (gate_at gs i) (forward gs (i - 1) x)
+    pub gate-caught : (class : GateClass)
+        → caught_lines n gs (gate_class_number class) 0 x i ≡ caught_at_gate (gate_class_number class) n (gate_at gs i) (forward gs (i - 1) x)
     unfolding gate state
-    gate-caught class a =
-        let Same : ℕ → Type 0 = λ k. caught_lines n gs k 0 x i ≡ caught_at_gate k n (gate_at gs i) (forward gs (i - 1) x) in
-        by_equal class 2 (λ e. subst Same (sym e) two_is) (λ b. by_equal class 3 (λ e. subst Same (sym e) three-is)
-        (λ c. by_equal class 4 (λ e. subst Same (sym e) four_is) (none_is class a b c)))
+    gate-caught MissingGate = two_is
+    gate-caught MissingControl = three-is
+    gate-caught ExtraControl = four_is

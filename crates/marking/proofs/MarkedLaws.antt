@@ -1,13 +1,6 @@
 -- Laws of marks added to words: one place at a time, and the words and the marks of a place.
-use Prim.Native.Nat.{ℕ, zero, suc, ◌-◌, ◌≤◌, ◌<◌}
-use mathlib.Core.Path.{◌≡◌, refl, ap, ◌∙◌}
-use mathlib.Core.Bool.{true}
-use mathlib.Core.List.{List, [], ◌∷◌}
-use native.Mathlib.Nat.{not-suc-le-zero, zero-add}
-use native.Mathlib.Omega.{arith}
-use lib.ListN.{length, get_or, take}
-use lib.Bits.{bit_or}
-use lib.Dec.{eqb}
+use Rattle.std.specs.Prelude.{ℕ, zero, suc, ◌-◌, ◌≤◌, ◌<◌, ◌≡◌, refl, true, List, [], ◌∷◌, length, get_or, take, bit_or, eqb}
+use Rattle.std.proofs.Common.{ap, ◌∙◌, not-suc-le-zero, zero-add, arith}
 use Rattle.basics.proofs.Tests.{or_left}
 use Rattle.basics.proofs.Lists.{map_up_from_at, length-map-up_from}
 use Rattle.words.specs.Word.{bit}

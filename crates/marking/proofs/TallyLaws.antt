@@ -1,39 +1,31 @@
 -- Counts of marks, as loops add them up: at each level or gate the ones of a word.
-use Prim.Native.Nat.{ℕ, zero, suc, ◌+◌, ◌-◌, ◌*◌, ◌^◌, ◌≤◌, ◌<◌}
-use mathlib.Core.Path.{◌≡◌, refl, sym, ap, ap₂, ◌∙◌, subst}
-use mathlib.Core.Logic.{◌≢◌}
-use mathlib.Core.List.{List, [], ◌∷◌}
-use native.Mathlib.Nat.{mul-one}
-use native.Mathlib.Numerals.{add-one}
-use native.Mathlib.Omega.{arith}
-use lib.ListN.{length, get_or}
-use lib.Bits.{bit_and}
-use lib.Dec.{eqb}
-use borrow.Author.Tests.{le-leb}
+use Rattle.std.specs.Prelude.{ℕ, zero, suc, ◌+◌, ◌-◌, ◌*◌, ◌^◌, ◌≤◌, ◌<◌, ◌≡◌, refl, List, [], ◌∷◌, length, get_or, eqb, bit_and}
+use Rattle.std.proofs.Common.{sym, ap, ap₂, ◌∙◌, arith, add-one, mul-one, le-leb}
 use Rattle.basics.specs.Lists.{up_from, keep, each}
 use Rattle.basics.specs.Sums.{sum_from}
-use Rattle.basics.proofs.Tests.{by_equal}
 use Rattle.basics.proofs.Lists.{length-each, keep-cong, all-up_from}
-use Rattle.basics.proofs.All.{all_of}
 use Rattle.basics.proofs.ListMore.{count-one}
 use Rattle.basics.proofs.SumLaws.{sum-cong, sum_more, sum_end, length-sum}
 use Rattle.words.specs.Word.{bit, lines_on}
 use Rattle.words.proofs.OrLaws.{lines_and}
 use Rattle.words.proofs.WordOfLaws.{lines_word_of}
-use Rattle.words.proofs.AndLaws.{and_lt, length_lines_le, lines_wide, lines_zero, lines_one}
+use Rattle.words.proofs.AndLaws.{and_lt, length_lines_le, lines_wide, lines_one}
 use Rattle.circuit.specs.Gates.{gate_at}
 use Rattle.circuit.specs.Controls.{is_control, is_other}
-use Rattle.circuit.specs.Limits.{most_lines, levels}
+use Rattle.circuit.specs.Limits.{most_lines}
 use Rattle.circuit.specs.declared.Gate.{Gate}
 use Rattle.faults.specs.Sites.{sites}
 use Rattle.faults.specs.declared.Fault.{Fault}
 use Rattle.faults.proofs.SiteLaws.{sites-lt}
-use Rattle.marking.proofs.FaultLines.{lines_two, lines_three, lines_four, lines_none, gate_lines-lt}
+use Rattle.marking.proofs.FaultLines.{lines_two, lines_three, lines_four, gate_lines-lt}
 use Rattle.faults.specs.Classes.{fault_of, stuck_faults, missing_gates, missing_controls, extra_controls, class_faults}
+use Rattle.faults.specs.Kinds.{gate_class_number}
+use Rattle.faults.specs.declared.classes.GateClass.{GateClass}
+use Rattle.faults.specs.declared.classes.GateClass.TheVariants.{MissingGate, MissingControl, ExtraControl}
 use Rattle.marking.specs.Marks.{is_on, level_marked, gate_marked}
 use Rattle.marking.specs.Tallies.{gate_lines}
-use Rattle.faults.proofs.ClassLists.{list_two, list_three, list_four, list_none}
-use Rattle.marking.proofs.Counting.{each_agree, each_none, count_places, count_stuck}
+use Rattle.faults.proofs.ClassLists.{list_two, list_three, list_four}
+use Rattle.marking.proofs.Counting.{each_agree, count_places, count_stuck}
 
 -- ---- the faults of a class of gate faults, gate by gate: one at each line of the gate's word
 
@@ -50,31 +42,23 @@ module _ (n : ℕ) (gs : List Gate) where
   two_places : 1 ≤ n → missing_gates gs ≡ each (gate_place n gs 2) (up_from 1 (length gs))
   unfolding missing_gates each
   two_places some = by_gate 2 _ (λ i lo hi.
-      ap (each (λ j. fault_of 2 i j 0 ∷ [])) (sym (ap (lines_on n) (lines_two n gs i lo hi 2 refl some) ∙ lines_one n some)))
+      ap (each (λ j. fault_of 2 i j 0 ∷ [])) (sym (ap (lines_on n) (lines_two n gs i lo hi some) ∙ lines_one n some)))
 
   three_places : missing_controls n gs ≡ each (gate_place n gs 3) (up_from 1 (length gs))
   unfolding missing_controls
   three_places = by_gate 3 _ (λ i lo hi.
-      ap (each (λ j. fault_of 3 i j 0 ∷ [])) (sym (ap (lines_on n) (lines_three n gs i lo hi 3 refl) ∙ lines_word_of n (is_control (gate_at gs i)))))
+      ap (each (λ j. fault_of 3 i j 0 ∷ [])) (sym (ap (lines_on n) (lines_three n gs i lo hi) ∙ lines_word_of n (is_control (gate_at gs i)))))
 
   four_places : extra_controls n gs ≡ each (gate_place n gs 4) (up_from 1 (length gs))
   unfolding extra_controls
   four_places = by_gate 4 _ (λ i lo hi.
-      ap (each (λ j. fault_of 4 i j 0 ∷ [])) (sym (ap (lines_on n) (lines_four n gs i lo hi 4 refl) ∙ lines_word_of n (is_other (gate_at gs i)))))
+      ap (each (λ j. fault_of 4 i j 0 ∷ [])) (sym (ap (lines_on n) (lines_four n gs i lo hi) ∙ lines_word_of n (is_other (gate_at gs i)))))
 
-  none_places : (class : ℕ) → class ≢ 1 → class ≢ 2 → class ≢ 3 → class ≢ 4 → [] ≡ each (gate_place n gs class) (up_from 1 (length gs))
-  unfolding each
-  none_places class a b c d = sym (each_none (gate_place n gs class) (up_from 1 (length gs)) (all_of _ (λ i.
-      ap (each (λ j. fault_of class i j 0 ∷ [])) (ap (lines_on n) (lines_none n gs class i a b c d) ∙ lines_zero n)) (up_from 1 (length gs))))
-
-  pub class_places : (class : ℕ) → 1 ≤ n → 2 ≤ class → class_faults n gs class ≡ each (gate_place n gs class) (up_from 1 (length gs))
-  class_places class some lo =
-      let Listed : List Fault → ℕ → Type 0 = λ fs k. fs ≡ each (gate_place n gs k) (up_from 1 (length gs)) in
-      let a : class ≢ 1 = λ e. omega arith in
-      by_equal class 2 (λ e. list_two n gs class e ∙ subst (Listed (missing_gates gs)) (sym e) (two_places some))
-      (λ b. by_equal class 3 (λ e. list_three n gs class e ∙ subst (Listed (missing_controls n gs)) (sym e) three_places)
-      (λ c. by_equal class 4 (λ e. list_four n gs class e ∙ subst (Listed (extra_controls n gs)) (sym e) four_places)
-      (λ d. list_none n gs class a b c d ∙ none_places class a b c d)))
+  pub class_places : (class : GateClass) → 1 ≤ n
+      → class_faults n gs (gate_class_number class) ≡ each (gate_place n gs (gate_class_number class)) (up_from 1 (length gs))
+  class_places MissingGate some = list_two n gs 2 refl ∙ two_places some
+  class_places MissingControl some = list_three n gs 3 refl ∙ three_places
+  class_places ExtraControl some = list_four n gs 4 refl ∙ four_places
 
 -- ---- the terms of the sums
 
@@ -118,24 +102,17 @@ sum_from-one f a (suc k) = ap₂ ◌+◌ (ap f (sym (add-one a))) (sum_from-one 
 
 -- of `end` places those below i have been added, each with at most two faults for each line
 pub record Adding (f : ℕ → ℕ) (total end sum i : ℕ) : Type 0 where
-  pub few : end ≤ levels
-  pub within : i ≤ end
   pub small : sum ≤ 2 * most_lines * i
   pub rest : sum + sum_from f i (end - i) ≡ total
 
-pub adding_start : (f : ℕ → ℕ) (total end places : ℕ) → end ≡ places → places ≤ levels → total ≡ sum_from f 0 places → Adding f total end 0 0
-adding_start f total end places e fit whole =
-    let all : end - 0 ≡ places = omega arith in
-    record { few = omega arith; within = omega arith; small = omega arith; rest = rw all (omega (arith, whole)) }
+pub adding_start : (f : ℕ → ℕ) (total end : ℕ) → total ≡ sum_from f 0 end → Adding f total end 0 0
+adding_start f total end whole =
+    let all : end - 0 ≡ end = omega arith in
+    record { small = omega arith; rest = rw all (omega (arith, whole)) }
 
 module _ (f : ℕ → ℕ) (total end sum i : ℕ) (so_far : Adding f total end sum i) where
   pub adding_more : (word : ℕ) → i < end → word ≡ f i → word ≤ 2 * most_lines → Adding f total end (sum + word) (i + 1)
-  adding_more word h here small = record {
-    few = so_far.few;
-    within = omega arith;
-    small = omega arith;
-    rest = omega (arith, sum_more f i end h);
-  }
+  adding_more word h here small = record { small = omega arith; rest = omega (arith, sum_more f i end h) }
 
   pub adding_done : end ≤ i → sum ≡ total
   adding_done h = omega (arith, sum_end f i end h)
@@ -152,24 +129,27 @@ module _ (n : ℕ) (gs : List Gate) (wide : n ≤ most_lines) where
       ap₂ ◌+◌ (ones_and n (get_or at0 i 0) (sites n gs i) wide (sites-lt n gs i)) (ones_and n (get_or at1 i 0) (sites n gs i) wide (sites-lt n gs i)))
       ∙ ap (sum_from (level_count n gs at0 at1) 0) (sym (add-one (length gs)))
 
-  module _ (class : ℕ) (some : 1 ≤ n) (lo : 2 ≤ class) where
-    gate_count_lem : (ws : List ℕ) (i : ℕ) → length (keep (gate_marked ws) (gate_place n gs class (i + 1))) ≡ gate_count n gs class ws i
-    gate_count_lem ws i =
-        let mask : ℕ = gate_lines n gs class (i + 1) in
-        count-one (gate_marked ws) (λ j. fault_of class (i + 1) j 0) (lines_on n mask)
-        ∙ ap length (keep-cong (gate_mark ws class i) (lines_on n mask))
-        ∙ ones_and n (get_or ws i 0) mask wide (gate_lines-lt n gs class (i + 1))
+  gate_count_lem : (class : ℕ) (ws : List ℕ) (i : ℕ) → length (keep (gate_marked ws) (gate_place n gs class (i + 1))) ≡ gate_count n gs class ws i
+  gate_count_lem class ws i =
+      let mask : ℕ = gate_lines n gs class (i + 1) in
+      count-one (gate_marked ws) (λ j. fault_of class (i + 1) j 0) (lines_on n mask)
+      ∙ ap length (keep-cong (gate_mark ws class i) (lines_on n mask))
+      ∙ ones_and n (get_or ws i 0) mask wide (gate_lines-lt n gs class (i + 1))
 
-    pub count_gates_sum : (ws : List ℕ) → length (keep (gate_marked ws) (class_faults n gs class)) ≡ sum_from (gate_count n gs class ws) 0 (length gs)
+  module _ (kind : GateClass) (some : 1 ≤ n) where
+    pub count_gates_sum : (ws : List ℕ) → length (keep (gate_marked ws) (class_faults n gs (gate_class_number kind)))
+        ≡ sum_from (gate_count n gs (gate_class_number kind) ws) 0 (length gs)
     count_gates_sum ws =
-        ap (λ l. length (keep (gate_marked ws) l)) (class_places n gs class some lo)
+        let class : ℕ = gate_class_number kind in
+        ap (λ l. length (keep (gate_marked ws) l)) (class_places n gs kind some)
         ∙ count_places (gate_marked ws) (gate_place n gs class) 1 (length gs)
         ∙ sum_from-one (λ i. length (keep (gate_marked ws) (gate_place n gs class i))) 0 (length gs)
-        ∙ sum-cong _ (gate_count n gs class ws) 0 (length gs) (λ i l h. gate_count_lem ws i)
+        ∙ sum-cong _ (gate_count n gs class ws) 0 (length gs) (λ i l h. gate_count_lem class ws i)
 
-    pub total_gates_sum : length (class_faults n gs class) ≡ sum_from (gate_total n gs class) 0 (length gs)
+    pub total_gates_sum : length (class_faults n gs (gate_class_number kind)) ≡ sum_from (gate_total n gs (gate_class_number kind)) 0 (length gs)
     total_gates_sum =
-        ap length (class_places n gs class some lo)
+        let class : ℕ = gate_class_number kind in
+        ap length (class_places n gs kind some)
         ∙ length-sum (gate_place n gs class) 1 (length gs)
         ∙ sum_from-one (λ i. length (gate_place n gs class i)) 0 (length gs)
         ∙ sum-cong _ (gate_total n gs class) 0 (length gs) (λ i l h.

@@ -1,3 +1,4 @@
 pub mod Marks
+pub mod Levels
 pub mod Tallies
 pub mod Firsts

@@ -3,72 +3,61 @@ ghost use Rattle.std.specs.Prelude.{◌≡◌, ◌-◌, ◌≤◌, ◌<◌, leng
 ghost use Rattle.std.specs.Int.Bits.{bit_or};
 ghost use Rattle.basics.specs.Lists.{keep};
 ghost use Rattle.words.specs.Word.{bit, lines_on};
-ghost use Rattle.circuit.specs.Gates.{gates_of};
+ghost use Rattle.circuit.specs.Checked.{gates_in};
 ghost use Rattle.circuit.specs.Limits.{most_lines, most_gates};
-ghost use Rattle.circuit.specs.Sound.{Sound};
 ghost use Rattle.faults.specs.Classes.{fault_of, stuck_faults, class_faults};
+ghost use Rattle.faults.specs.Kinds.{gate_class_number};
 ghost use Rattle.marking.specs.Marks.{level_marked, gate_marked};
 ghost use Rattle.marking.specs.Firsts.{first_uncaught, told_first};
 ghost use Rattle.marking.specs.Tallies.{gate_lines};
 
-use crate::First;
-use circuit::checked::{control_lines, gate_at, other_lines};
-use circuit::limits::{LEVELS, MOST_GATES};
+use crate::marks::LevelMarks;
+use circuit::checked::Circuit;
+use circuit::limits::MOST_GATES;
 use circuit::numbers;
 use circuit::numbers::{GateNumber, LevelNumber};
 use faults::Fault;
+use faults::classes::GateClass;
 use faults::places::{told_gate, told_level};
 use faults::sites::{site_count, sites_at};
 use words;
 
 // The lines at which a gate has a fault of a class.
-fn gate_lines(class: u32, lines: u32, gates: &[u32], gate: GateNumber) -> u32
-    requires sound { Sound lines gates.now }
-    requires le_class { (2 ≤ class) × ((0 < gate.0) × (gate.0 ≤ length (gates_of gates.now))) }
-    ensures { result ≡ gate_lines lines (gates_of gates.now) class gate.0 }
+#[tactic(auto, using(crate::proofs::FaultLines::lines_two, crate::proofs::FaultLines::lines_three, crate::proofs::FaultLines::lines_four))]
+fn gate_lines(class: GateClass, circuit: &Circuit, gate: GateNumber) -> u32
+    requires { (0 < gate.0) × (gate.0 ≤ length (gates_in circuit.now)) }
+    ensures { result ≡ gate_lines circuit.now.lines (gates_in circuit.now) (gate_class_number class) gate.0 }
 {
-    if class == 2 {
-        return 1;
+    match class {
+        GateClass::MissingGate => 1,
+        GateClass::MissingControl => circuit.own_gate(gate).control_lines(),
+        GateClass::ExtraControl => circuit.own_gate(gate).other_lines(),
     }
-    if class == 3 {
-        return control_lines(lines, gate_at(gates, gate));
-    }
-    if class == 4 {
-        return other_lines(lines, gate_at(gates, gate));
-    }
-    0
 }
 
 // How many faults of class 1 are marked.
-pub fn count_levels<'a>(
-    lines: u32,
-    gates: &[u32],
-    at_0: &'a [u32; LEVELS],
-    at_1: &'a [u32; LEVELS],
-) -> u32
-    requires { Sound lines gates.now }
-    ensures { result ≡ length (keep (level_marked at_0.now at_1.now) (stuck_faults lines (gates_of gates.now))) }
+#[tactic(auto, using(crate::proofs::TallyLaws::ones_le))]
+pub fn count_levels(circuit: &Circuit, marks: &LevelMarks) -> u32
+    ensures { result ≡ length (keep (level_marked marks.now.at_0 marks.now.at_1)
+        (stuck_faults circuit.now.lines (gates_in circuit.now))) }
 {
-    let end = gates.len() / 3 + 1;
     let mut sum = 0;
-    let mut i = 0;
-    while i < end {
-        let here = sites_at(lines, gates, numbers::level(i));
-        sum += words::ones(at_0[i] & here) + words::ones(at_1[i] & here);
-        i += 1;
+    for i in 0..circuit.depth() + 1 {
+        let here = sites_at(circuit, numbers::level(i));
+        sum += words::ones(marks.at_0[i] & here) + words::ones(marks.at_1[i] & here);
     }
     sum
 }
 
 // How many faults of class 1 there are.
-pub fn total_levels(lines: u32, gates: &[u32]) -> u32
-    requires { Sound lines gates.now }
-    ensures { result ≡ length (stuck_faults lines (gates_of gates.now)) }
+pub fn total_levels(circuit: &Circuit) -> u32
+    ensures { result ≡ length (stuck_faults circuit.now.lines (gates_in circuit.now)) }
 {
-    2 * site_count(lines, gates)
+    2 * site_count(circuit)
 }
 
 // The first fault of a level of which some are left: the lowest line, value 0 before 1.
+#[tactic(auto, using(words::proofs::Bits::bit_le, words::proofs::AndLaws::lowest_or_lt), unfolding(faults::specs::Classes::fault_of))]
 fn first_at_level(level: LevelNumber, left_0: u32, left_1: u32) -> Fault
     requires level_le_most_gates { level.0 ≤ most_gates }
     requires fact { bit_or left_0 left_1 ≡ 0 → ⊥ }
@@ -86,85 +75,65 @@ fn first_at_level(level: LevelNumber, left_0: u32, left_1: u32) -> Fault
 }
 
 // The first unmarked fault of class 1.
-pub fn first_levels<'a>(
-    lines: u32,
-    gates: &[u32],
-    at_0: &'a [u32; LEVELS],
-    at_1: &'a [u32; LEVELS],
-) -> First
-    requires { Sound lines gates.now }
-    ensures { told_first result ≡ first_uncaught (level_marked at_0.now at_1.now)
-        (stuck_faults lines (gates_of gates.now)) }
+pub fn first_levels(circuit: &Circuit, marks: &LevelMarks) -> Option<Fault>
+    ensures { told_first result ≡ first_uncaught (level_marked marks.now.at_0 marks.now.at_1)
+        (stuck_faults circuit.now.lines (gates_in circuit.now)) }
 {
-    let end = gates.len() / 3 + 1;
-    let mut i = 0;
-    while i < end {
+    for i in 0..circuit.depth() + 1 {
         let level = numbers::level(i);
-        let here = sites_at(lines, gates, level);
-        let left_0 = words::lacking(here, at_0[i]);
-        let left_1 = words::lacking(here, at_1[i]);
+        let here = sites_at(circuit, level);
+        let left_0 = words::lacking(here, marks.at_0[i]);
+        let left_1 = words::lacking(here, marks.at_1[i]);
         if left_0 | left_1 != 0 {
-            return First::Uncaught(first_at_level(level, left_0, left_1));
+            return Some(first_at_level(level, left_0, left_1));
         }
-        i += 1;
     }
-    First::None
+    None
 }
 
 // How many faults of a class of gate faults are marked.
-pub fn count_gates(class: u32, lines: u32, gates: &[u32], marks: &[u32; MOST_GATES]) -> u32
-    requires sound { Sound lines gates.now }
-    requires le_class { 2 ≤ class }
-    ensures { result ≡ length (keep (gate_marked marks.now) (class_faults lines (gates_of gates.now) class)) }
+#[tactic(auto, using(crate::proofs::TallyLaws::ones_le))]
+pub fn count_gates(class: GateClass, circuit: &Circuit, marks: &[u32; MOST_GATES]) -> u32
+    ensures { result ≡ length (keep (gate_marked marks.now)
+        (class_faults circuit.now.lines (gates_in circuit.now) (gate_class_number class))) }
 {
-    let end = gates.len() / 3;
     let mut sum = 0;
-    let mut i = 0;
-    while i < end {
+    for i in 0..circuit.depth() {
         let gate = numbers::gate_after(numbers::level(i));
-        sum += words::ones(marks[i] & gate_lines(class, lines, gates, gate));
-        i += 1;
+        sum += words::ones(marks[i] & gate_lines(class, circuit, gate));
     }
     sum
 }
 
 // How many faults of a class of gate faults there are.
-pub fn total_gates(class: u32, lines: u32, gates: &[u32]) -> u32
-    requires sound { Sound lines gates.now }
-    requires le_class { 2 ≤ class }
-    ensures { result ≡ length (class_faults lines (gates_of gates.now) class) }
+#[tactic(auto, using(crate::proofs::TallyLaws::ones_le))]
+pub fn total_gates(class: GateClass, circuit: &Circuit) -> u32
+    ensures { result ≡ length (class_faults circuit.now.lines (gates_in circuit.now) (gate_class_number class)) }
 {
-    let end = gates.len() / 3;
     let mut sum = 0;
-    let mut i = 0;
-    while i < end {
+    for i in 0..circuit.depth() {
         let gate = numbers::gate_after(numbers::level(i));
-        sum += words::ones(gate_lines(class, lines, gates, gate));
-        i += 1;
+        sum += words::ones(gate_lines(class, circuit, gate));
     }
     sum
 }
 
 // The first unmarked fault of a class of gate faults.
-pub fn first_gates(class: u32, lines: u32, gates: &[u32], marks: &[u32; MOST_GATES]) -> First
-    requires sound { Sound lines gates.now }
-    requires le_class { 2 ≤ class }
-    ensures { told_first result ≡ first_uncaught (gate_marked marks.now) (class_faults lines (gates_of gates.now) class) }
+pub fn first_gates(class: GateClass, circuit: &Circuit, marks: &[u32; MOST_GATES]) -> Option<Fault>
+    ensures { told_first result ≡ first_uncaught (gate_marked marks.now)
+        (class_faults circuit.now.lines (gates_in circuit.now) (gate_class_number class)) }
 {
-    let end = gates.len() / 3;
-    let mut i = 0;
-    while i < end {
+    for i in 0..circuit.depth() {
         let gate = numbers::gate_after(numbers::level(i));
-        let left = words::lacking(gate_lines(class, lines, gates, gate), marks[i]);
+        let left = words::lacking(gate_lines(class, circuit, gate), marks[i]);
         if left != 0 {
-            return First::Uncaught(Fault {
-                class,
+            return Some(Fault {
+                class: class.number(),
                 place: told_gate(gate),
                 line: words::checked::lowest(left),
                 value: 0,
             });
         }
-        i += 1;
     }
-    First::None
+    None
 }

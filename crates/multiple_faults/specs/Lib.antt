@@ -3,3 +3,4 @@ pub mod Multiple
 pub mod Entries
 pub mod Rules
 pub mod Promises
+pub mod Checked

@@ -5,7 +5,7 @@ ghost use Rattle.report_text.specs.Promises.{report_tells, report_leaves};
 ghost use Rattle.answers.specs.Fields.{fields};
 
 use answers::Count;
-use answers::jobs::{Job, bytes_of, job_of, text_of};
+use answers::jobs::Job;
 
 // A job out of bytes, into the fronts of two lists.
 #[unsafe(no_mangle)]
@@ -15,7 +15,7 @@ pub extern "C" fn nuf_read_job(bytes: &[u8], gates: &mut [u32], vectors: &mut [u
         × ((gates.new ≡ read_leaves_gates bytes.now gates.old vectors.old)
         × (vectors.new ≡ read_leaves_vectors bytes.now gates.old vectors.old)) }
 {
-    job_of(job::read_job(bytes, gates, vectors))
+    job::read_job(bytes, gates, vectors).into()
 }
 
 // A job into the front of some bytes.
@@ -31,7 +31,7 @@ pub extern "C" fn nuf_write_job(
         (write_tells lines classes gates.now vectors.now out.old))
         × (out.new ≡ write_leaves lines classes gates.now vectors.now out.old) }
 {
-    bytes_of(job::write_job(lines, classes, gates, vectors, out))
+    job::write_job(lines, classes, gates, vectors, out).into()
 }
 
 // The report on a job into the front of some bytes.
@@ -40,5 +40,5 @@ pub extern "C" fn nuf_report(bytes: &[u8], out: &mut [u8]) -> Count
     ensures { ((result.number ∷ result.place ∷ result.count ∷ []) ≡ fields 1 (report_tells bytes.now out.old))
         × (out.new ≡ report_leaves bytes.now out.old) }
 {
-    text_of(report_text::report(bytes, out))
+    report_text::report(bytes, out).into()
 }

@@ -3,7 +3,7 @@ ghost use Rattle.std.specs.Prelude.{◌≡◌, [], ◌∷◌};
 ghost use Rattle.judge.specs.Promises.{judge_tells};
 ghost use Rattle.answers.specs.Fields.{fields};
 
-use answers::verdicts::{Judgement, judgement_of};
+use answers::verdicts::Judgement;
 
 // The verdict on a set for a class.
 #[unsafe(no_mangle)]
@@ -12,7 +12,7 @@ pub extern "C" fn nuf_judge(lines: u32, gates: &[u32], vectors: &[u32], class: u
         ∷ result.first.class ∷ result.first.place ∷ result.first.line ∷ result.first.value ∷ []) ≡ fields 7
         (judge_tells lines gates.now vectors.now class) }
 {
-    judgement_of(judge::judge(lines, gates, vectors, class))
+    judge::judge(lines, gates, vectors, class).into()
 }
 
 // The same verdict, by way of a coverage.
@@ -22,5 +22,5 @@ pub extern "C" fn nuf_cover(lines: u32, gates: &[u32], vectors: &[u32], class: u
         ∷ result.first.class ∷ result.first.place ∷ result.first.line ∷ result.first.value ∷ []) ≡ fields 7
         (judge_tells lines gates.now vectors.now class) }
 {
-    judgement_of(judge::covering::cover(lines, gates, vectors, class))
+    judge::covering::cover(lines, gates, vectors, class).into()
 }

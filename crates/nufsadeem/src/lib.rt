@@ -12,7 +12,7 @@ ghost use Rattle.dropping.specs.Promises.{drop_tells, drop_leaves, drop_records_
 ghost use Rattle.testsets.specs.Promises.{backward_set_tells, backward_set_leaves, compact_set_tells, compact_set_leaves};
 ghost use Rattle.answers.specs.Fields.{fields};
 
-use answers::{Catch, Count, Run, Vector, catch_of, left_of, made_of, run_of, vector_of};
+use answers::{Catch, Count, Run, Vector};
 use faults::Fault;
 
 pub mod jobs;
@@ -24,7 +24,7 @@ pub mod texts;
 pub extern "C" fn nuf_forward(lines: u32, gates: &[u32], level: u32, state: u32) -> Run
     ensures { (result.number ∷ result.place ∷ result.state ∷ []) ≡ fields 1 (forward_tells lines gates.now level state) }
 {
-    run_of(circuit::forward(lines, gates, level, state))
+    circuit::forward(lines, gates, level, state).into()
 }
 
 // From a level to the input that leads there.
@@ -32,7 +32,7 @@ pub extern "C" fn nuf_forward(lines: u32, gates: &[u32], level: u32, state: u32)
 pub extern "C" fn nuf_backward(lines: u32, gates: &[u32], level: u32, state: u32) -> Run
     ensures { (result.number ∷ result.place ∷ result.state ∷ []) ≡ fields 1 (backward_tells lines gates.now level state) }
 {
-    run_of(circuit::backward(lines, gates, level, state))
+    circuit::backward(lines, gates, level, state).into()
 }
 
 // Whether a vector catches a fault.
@@ -40,7 +40,7 @@ pub extern "C" fn nuf_backward(lines: u32, gates: &[u32], level: u32, state: u32
 pub extern "C" fn nuf_catches(lines: u32, gates: &[u32], vector: u32, fault: Fault) -> Catch
     ensures { (result.number ∷ result.place ∷ result.caught ∷ []) ≡ fields 1 (catches_tells lines gates.now vector fault) }
 {
-    catch_of(simulator::catches(lines, gates, vector, fault))
+    simulator::catches(lines, gates, vector, fault).into()
 }
 
 // Whether a vector catches a multiple stuck-at fault, lent as a plain list of entries.
@@ -54,7 +54,7 @@ pub extern "C" fn nuf_catches_multiple(
     ensures { (result.number ∷ result.place ∷ result.caught ∷ []) ≡ fields 1
         (catches_multiple_tells lines gates.now vector entries.now) }
 {
-    catch_of(multiple_faults::catches_multiple(lines, gates, vector, entries))
+    multiple_faults::catches_multiple(lines, gates, vector, entries).into()
 }
 
 // The test for one fault.
@@ -62,7 +62,7 @@ pub extern "C" fn nuf_catches_multiple(
 pub extern "C" fn nuf_test_for(lines: u32, gates: &[u32], fault: Fault) -> Vector
     ensures { (result.number ∷ result.place ∷ result.vector ∷ []) ≡ fields 1 (test_for_tells lines gates.now fault) }
 {
-    vector_of(fault_test::test_for(lines, gates, fault))
+    fault_test::test_for(lines, gates, fault).into()
 }
 
 // The backward set, into the front of a room.
@@ -71,7 +71,7 @@ pub extern "C" fn nuf_backward_set(lines: u32, gates: &[u32], room: &mut [u32]) 
     ensures { ((result.number ∷ result.place ∷ result.count ∷ []) ≡ fields 1 (backward_set_tells lines gates.now room.old))
         × (room.new ≡ backward_set_leaves lines gates.now room.old) }
 {
-    made_of(testsets::backward_set(lines, gates, room))
+    testsets::backward_set(lines, gates, room).into()
 }
 
 // The compact set, into the front of a room.
@@ -80,7 +80,7 @@ pub extern "C" fn nuf_compact_set(lines: u32, gates: &[u32], room: &mut [u32]) -
     ensures { ((result.number ∷ result.place ∷ result.count ∷ []) ≡ fields 1 (compact_set_tells lines gates.now room.old))
         × (room.new ≡ compact_set_leaves lines gates.now room.old) }
 {
-    made_of(testsets::compact_set(lines, gates, room))
+    testsets::compact_set(lines, gates, room).into()
 }
 
 // A plain list loses the faults that a vector catches.
@@ -89,7 +89,7 @@ pub extern "C" fn nuf_drop(lines: u32, gates: &[u32], vector: u32, list: &mut [u
     ensures { ((result.number ∷ result.place ∷ result.count ∷ []) ≡ fields 1 (drop_tells lines gates.now vector list.old))
         × (list.new ≡ drop_leaves lines gates.now vector list.old) }
 {
-    left_of(dropping::drop(lines, gates, vector, list))
+    dropping::drop(lines, gates, vector, list).into()
 }
 
 // The same of a list of records.
@@ -103,5 +103,5 @@ pub extern "C" fn nuf_drop_records(
     ensures { ((result.number ∷ result.place ∷ result.count ∷ []) ≡ fields 1 (drop_records_tells lines gates.now vector list.old))
         × (list.new ≡ drop_records_leaves lines gates.now vector list.old) }
 {
-    left_of(dropping::drop_records(lines, gates, vector, list))
+    dropping::drop_records(lines, gates, vector, list).into()
 }

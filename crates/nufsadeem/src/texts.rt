@@ -5,7 +5,7 @@ ghost use Rattle.real_import.specs.Promises.{import_tells, import_leaves};
 ghost use Rattle.answers.specs.Fields.{fields};
 
 use answers::Count;
-use answers::texts::{Circuit, circuit_of, length_of};
+use answers::texts::Circuit;
 
 // The circuit of a text in the .real form, into the front of a list.
 #[unsafe(no_mangle)]
@@ -13,7 +13,7 @@ pub extern "C" fn nuf_import_real(text: &[u8], gates: &mut [u32]) -> Circuit
     ensures { ((result.number ∷ result.place ∷ result.lines ∷ result.gates ∷ []) ≡ fields 2 (import_tells text.now gates.old))
         × (gates.new ≡ import_leaves text.now gates.old) }
 {
-    circuit_of(real_import::import(text, gates))
+    real_import::import(text, gates).into()
 }
 
 // A circuit as a text in the .real form, into the front of some bytes.
@@ -22,5 +22,5 @@ pub extern "C" fn nuf_export_real(lines: u32, gates: &[u32], out: &mut [u8]) -> 
     ensures { ((result.number ∷ result.place ∷ result.count ∷ []) ≡ fields 1 (export_tells lines gates.now out.old))
         × (out.new ≡ export_leaves lines gates.now out.old) }
 {
-    length_of(real_export::export(lines, gates, out))
+    real_export::export(lines, gates, out).into()
 }

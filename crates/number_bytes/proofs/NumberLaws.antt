@@ -1,24 +1,14 @@
 -- A number and its bytes say the same: numbers and words, both ways.
-use Prim.Native.Nat.{ℕ, zero, suc, ◌+◌, ◌*◌, ◌/◌, ◌%◌, ◌^◌, ◌<◌, ◌≤◌}
-use mathlib.Core.Path.{◌≡◌, refl, sym, ap, ap₂, ◌∙◌}
-use mathlib.Core.List.{List, [], ◌∷◌, ◌++◌, append_assoc}
-use native.Mathlib.Nat.{pow-suc}
-use native.Mathlib.Omega.{arith}
-use lib.ListN.{length, get_or, take, drop, take-append-drop}
-use lib.Seq.{drop-cons, drop-drop, get_or-append-add}
+use Rattle.std.specs.Prelude.{◌≡◌, refl, ℕ, zero, suc, ◌+◌, ◌*◌, ◌/◌, ◌%◌, ◌^◌, ◌<◌, ◌≤◌, List, [], ◌∷◌, ◌++◌, length, take, drop}
+use Rattle.std.proofs.Common.{ap, ap₂, sym, ◌∙◌, arith, pow-suc, append_assoc, get_or, drop-cons}
+use Rattle.std.proofs.Math.Seq.{drop-drop}
+use Rattle.std.proofs.Math.ListN.{take-append-drop}
 use Rattle.basics.specs.Lists.{each, All}
 use Rattle.basics.proofs.All.{all_at}
 use Rattle.number_bytes.specs.Bytes.{bytes_of, number_at, words_at}
-use Rattle.number_bytes.proofs.ByteLaws.{length_bytes}
+use Rattle.number_bytes.proofs.ByteLaws.{number_skip, length_bytes}
 
 -- ---- past other bytes
-
-pub number_skip : (width : ℕ) (pre bytes : List ℕ) (k : ℕ) → number_at width (pre ++ bytes) (length pre + k) ≡ number_at width bytes k
-unfolding number_at
-number_skip zero pre bytes k = refl
-number_skip (suc width) pre bytes k =
-    let e : suc (length pre + k) ≡ length pre + suc k = omega arith in
-    ap₂ (λ a b. a + 256 * b) (get_or-append-add pre bytes k 0) (ap (number_at width (pre ++ bytes)) e ∙ number_skip width pre bytes (suc k))
 
 words_skip : (count : ℕ) (pre bytes : List ℕ) (k : ℕ) → words_at count (pre ++ bytes) (length pre + k) ≡ words_at count bytes k
 unfolding words_at

@@ -4,64 +4,42 @@ ghost use Rattle.std.proofs.lemmas.List.Edits.{sets};
 ghost use Rattle.basics.specs.Lists.{each};
 ghost use Rattle.number_bytes.specs.Bytes.{bytes_of, number_at, words_at};
 
-// The number that 2 bytes make.
-pub fn number_at_2(bytes: &[u8], at: usize) -> u32
-    requires { at + 2 ≤ length bytes.now }
-    ensures { result ≡ number_at 2 bytes.now at }
+// The number that so many bytes make, 4 at most.
+pub fn number_at<const WIDTH: usize>(bytes: &[u8], at: usize) -> u32
+    requires { (WIDTH ≤ 4) × (at + WIDTH ≤ length bytes.now) }
+    ensures { result ≡ number_at WIDTH bytes.now at }
 {
-    let low = bytes[at] as u32;
-    let high = bytes[at + 1] as u32;
-    low + 256 * high
-}
-
-// The number that 4 bytes make.
-pub fn number_at_4(bytes: &[u8], at: usize) -> u32
-    requires { at + 4 ≤ length bytes.now }
-    ensures { result ≡ number_at 4 bytes.now at }
-{
-    let low = number_at_2(bytes, at);
-    let high = number_at_2(bytes, at + 2);
-    low + 65536 * high
+    let mut padded = [0; 4];
+    padded[..WIDTH].copy_from_slice(&bytes[at..at + WIDTH]);
+    u32::from_le_bytes(padded)
 }
 
 // The words from a place on, as many as there is room for.
+#[tactic(auto, using(crate::proofs::ByteLaws::words_read), unfolding(crate::specs::Bytes::words_at))]
 pub fn read_words(bytes: &[u8], at: usize, out: &mut [u32])
     requires { at + 4 * length out.old ≤ length bytes.now }
     ensures { out.new ≡ words_at (length out.old) bytes.now at }
 {
-    let mut i = 0;
-    while i < out.len() {
-        out[i] = number_at_4(bytes, at + 4 * i);
-        i += 1;
+    for (i, word) in out.iter_mut().enumerate() {
+        *word = number_at::<4>(bytes, at + 4 * i);
     }
 }
 
-// Stores a number in 2 bytes.
-pub fn put_2(out: &mut [u8], at: usize, x: u32)
-    requires { at + 2 ≤ length out.old }
-    ensures { out.new ≡ sets out.old at (bytes_of 2 x) }
+// Stores a number in so many bytes, 4 at most.
+pub fn put<const WIDTH: usize>(out: &mut [u8], at: usize, x: u32)
+    requires { (WIDTH ≤ 4) × (at + WIDTH ≤ length out.old) }
+    ensures { out.new ≡ sets out.old at (bytes_of WIDTH x) }
 {
-    out[at] = (x % 256) as u8;
-    out[at + 1] = (x / 256 % 256) as u8;
-}
-
-// Stores a number in 4 bytes.
-pub fn put_4(out: &mut [u8], at: usize, x: u32)
-    requires { at + 4 ≤ length out.old }
-    ensures { out.new ≡ sets out.old at (bytes_of 4 x) }
-{
-    put_2(out, at, x);
-    put_2(out, at + 2, x / 65536);
+    out[at..at + WIDTH].copy_from_slice(&x.to_le_bytes()[..WIDTH]);
 }
 
 // Stores words from a place on.
+#[tactic(auto, using(crate::proofs::ByteLaws::words_put), unfolding(basics::specs::Lists::each))]
 pub fn put_words(out: &mut [u8], at: usize, words: &[u32])
     requires { at + 4 * length words.now ≤ length out.old }
     ensures { out.new ≡ sets out.old at (each (bytes_of 4) words.now) }
 {
-    let mut i = 0;
-    while i < words.len() {
-        put_4(out, at + 4 * i, words[i]);
-        i += 1;
+    for (i, word) in words.iter().enumerate() {
+        put::<4>(out, at + 4 * i, *word);
     }
 }

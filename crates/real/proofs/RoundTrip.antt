@@ -13,7 +13,7 @@ use Rattle.basics.proofs.Rising.{rising_up, rising_keep}
 use Rattle.basics.proofs.Lists.{all-up_from, length-up_from}
 use Rattle.basics.proofs.All.{all_map, all_append}
 use Rattle.refusals.specs.Tables.{first_of}
-use Rattle.refusals.specs.Checks.{fine}
+use Rattle.refusals.specs.Answers.{fine}
 use Rattle.refusals.proofs.Tables.{fine_row}
 use Rattle.refusals.proofs.Places.{none_bad}
 use Rattle.words.specs.Word.{bit, lines_on}

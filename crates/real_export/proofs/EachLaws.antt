@@ -1,12 +1,7 @@
 -- Laws of lists that are joined: in two parts, entry by entry, kept by a test, and their length.
-use Prim.Native.Nat.{ℕ, zero, suc, ◌+◌, ◌-◌, ◌*◌, ◌<◌, ◌≤◌}
-use mathlib.Core.Path.{◌≡◌, refl, sym, ap, ◌∙◌}
-use mathlib.Core.Bool.{Bool}
-use mathlib.Core.List.{List, [], ◌∷◌, ◌++◌, append_assoc}
-use native.Mathlib.Omega.{arith}
-use native.Mathlib.Numerals.{add-one}
-use lib.ListN.{length, get_or, drop, length-append, drop_of_length-le}
-use lib.Seq.{drop-cons}
+use Rattle.std.specs.Prelude.{ℕ, zero, suc, ◌+◌, ◌*◌, ◌<◌, ◌≤◌, ◌≡◌, refl, Bool, List, [], ◌∷◌, ◌++◌, length, get_or, take, drop}
+use Rattle.std.proofs.Common.{sym, ap, ◌∙◌, arith, add-one, append_assoc, length-append, take-suc, take-append-drop}
+use Rattle.std.proofs.lemmas.List.{append-nil}
 use Rattle.basics.specs.Choice.{choice}
 use Rattle.basics.specs.Lists.{up_from, keep, each, All}
 use Rattle.basics.proofs.Tests.{by_test}
@@ -31,29 +26,36 @@ module _ {ℓ κ} {A : Type ℓ} {B : Type κ} (f : A → List B) where
   each_few c [] h = omega arith
   each_few c (x ∷ xs) h = rw (length-append (f x) (each f xs)) (omega (arith, h.0, each_few c xs h.1))
 
-  -- the entries that are left from place i on: one more, and none
-  pub each_more : (xs : List A) (i : ℕ) (d : A) → i < length xs → each f (drop i xs) ≡ f (get_or xs i d) ++ each f (drop (i + 1) xs)
+  -- the first entries, with the next one too; no more than all
+  pub each_next : (xs : List A) (i : ℕ) (d : A) → i < length xs → each f (take (i + 1) xs) ≡ each f (take i xs) ++ f (get_or xs i d)
   unfolding each
-  each_more xs i d h = rw (drop-cons xs i d h, add-one i)
+  each_next xs i d h =
+      let last = append-nil (f (get_or xs i d)) in
+      rw (add-one i, take-suc xs i d h) (each_append (take i xs) (get_or xs i d ∷ []) ∙ ap (λ t. each f (take i xs) ++ t) last)
 
-  pub each_end : (xs : List A) (i : ℕ) → length xs ≤ i → each f (drop i xs) ≡ []
-  unfolding each
-  each_end xs i h = rw (drop_of_length-le xs {i = i} h)
+  pub each_front : (xs : List A) (i : ℕ) → length (each f (take i xs)) ≤ length (each f xs)
+  each_front xs i =
+      let parts = each_append (take i xs) (drop i xs) in
+      omega (arith, ap (λ t. length (each f t)) (take-append-drop i xs), ap length parts, length-append (each f (take i xs)) (each f (drop i xs)))
 
--- the same of the numbers below n, of which some are left
-module _ {κ} {B : Type κ} (f : ℕ → List B) (n : ℕ) where
-  pub up_all : each f (up_from (n - n) n) ≡ each f (up_from 0 n)
-  up_all = let e : n - n ≡ 0 = omega arith in rw e
-
-  pub up_more : (left : ℕ) → 0 < left → left ≤ n
-      → each f (up_from (n - left) left) ≡ f (n - left) ++ each f (up_from (n - (left - 1)) (left - 1))
+-- the same of the numbers from a on
+module _ {κ} {B : Type κ} (f : ℕ → List B) where
+  pub up_next : (a i : ℕ) → each f (up_from a (i + 1)) ≡ each f (up_from a i) ++ f (a + i)
   unfolding each up_from
-  up_more zero h k = absurd (omega arith)
-  up_more (suc rest) h k =
-      let e : n - (suc rest - 1) ≡ suc (n - suc rest) = omega arith in
-      let g : suc rest - 1 ≡ rest = omega arith in
-      rw (e, g)
+  up_next a zero = let e : a + 0 ≡ a = omega arith in rw e (append-nil (f a))
+  up_next a (suc i) =
+      let e : suc a + i ≡ a + suc i = omega arith in
+      let rest = ap (λ n. each f (up_from (suc a) n)) (sym (add-one i)) ∙ up_next (suc a) i in
+      ap (λ n. each f (up_from a n)) (add-one (suc i)) ∙ ap (λ t. f a ++ t) (rest ∙ rw e refl)
+      ∙ sym (append_assoc (f a) (each f (up_from (suc a) i)) (f (a + suc i)))
 
-  pub up_end : (left : ℕ) → left ≤ 0 → each f (up_from (n - left) left) ≡ []
+  pub up_front : (a i n : ℕ) → i ≤ n → length (each f (up_from a i)) ≤ length (each f (up_from a n))
   unfolding each up_from
-  up_end left h = let e : left ≡ 0 = omega arith in rw e
+  up_front a zero n h = omega arith
+  up_front a (suc i) zero h = absurd (omega arith)
+  up_front a (suc i) (suc n) h = omega (
+    arith,
+    up_front (suc a) i n (omega arith),
+    length-append (f a) (each f (up_from (suc a) i)),
+    length-append (f a) (each f (up_from (suc a) n)),
+  )

@@ -3,4 +3,3 @@ pub mod PutLaws
 pub mod PartLaws
 pub mod WholeLaws
 pub mod RuleLaws
-pub mod AnswerLaws

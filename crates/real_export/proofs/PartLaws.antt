@@ -1,12 +1,8 @@
 -- Laws of the parts of a text: which names stand in them, how long they are, and that they are what is put.
-use Prim.Native.Nat.{ℕ, zero, suc, ◌+◌, ◌*◌, ◌/◌, ◌<◌, ◌≤◌, min}
-use mathlib.Core.Path.{◌≡◌, sym, ap, ◌∙◌}
-use mathlib.Core.List.{List, [], ◌∷◌, ◌++◌}
-use native.Mathlib.Omega.{arith}
-use native.Mathlib.Numerals.{add-one}
-use lib.ListN.{length, drop, set, length-append}
-use lib.Dec.{eqb, ltb}
-use borrow.Author.Tests.{eq-eqb, ne_eqb, eqb-false, ltb-true, ltb-false}
+use Rattle.std.specs.Prelude.{ℕ, zero, suc, ◌+◌, ◌*◌, ◌<◌, ◌≤◌, ◌≡◌, refl, min, List, [], ◌∷◌, ◌++◌, length, take, eqb, ltb}
+use Rattle.std.proofs.Common.{sym, ap, ◌∙◌, arith, length-append}
+use Rattle.std.proofs.lemmas.Bool.{eq-eqb, ne_eqb, eqb-false, ltb-true, ltb-false}
+use Rattle.std.proofs.lemmas.List.{append-nil}
 use Rattle.basics.specs.Lists.{up_from, each}
 use Rattle.basics.proofs.Tests.{by_test, by_equal, choice-true, choice-false}
 use Rattle.words.specs.Word.{bit, all_ones, lines_on}
@@ -14,40 +10,22 @@ use Rattle.words.proofs.AndLaws.{length_lines_le}
 use Rattle.words.proofs.SplitLaws.{length-wide}
 use Rattle.text.specs.Texts.{ascii}
 use Rattle.text.specs.Decimal.{decimal}
-use Rattle.text.proofs.TextLaws.{decimal_small, room_more, digits_most}
 use Rattle.circuit.specs.Limits.{most_lines}
 use Rattle.circuit.specs.Controls.{is_control}
-use Rattle.circuit.specs.Gates.{gates_of, no_gate, gate_at}
-use Rattle.circuit.specs.Sound.{GateOk, Sound}
+use Rattle.circuit.specs.Gates.{no_gate, gate_at}
+use Rattle.circuit.specs.Sound.{GateOk}
 use Rattle.circuit.specs.declared.Gate.{Gate}
 use Rattle.circuit.proofs.GateLaws.{gate_entry}
-use Rattle.circuit.proofs.RuleLaws.{gate_ok}
 use Rattle.real.specs.Export.{name_of}
-use Rattle.real_export.specs.Parts.{spaced_name, name_if, names_on, gate_text, head_text}
-use Rattle.real_export.proofs.EachLaws.{each_more}
-use Rattle.real_export.proofs.PutLaws.{Puts, put_byte, put_then}
-
--- ---- numbers below 100
-
-pub digits_one : (x : ℕ) → x < 10 → 1 ≡ length (decimal x)
-digits_one x h = rw (decimal_small x h)
-
-pub digits_two : (x : ℕ) → x < 100 → 10 ≤ x → 2 ≡ length (decimal x)
-digits_two x h k = rw (room_more x k, decimal_small (x / 10) (omega arith))
-
-pub digits_few : (x : ℕ) → x < 100 → length (decimal x) ≤ 2
-digits_few x h = digits_most 2 x (omega arith) (omega arith)
+use Rattle.real_export.specs.Parts.{Put, spaced_name, name_if, names_on, gate_text, head_text}
+use Rattle.real_export.proofs.EachLaws.{each_next, each_front, up_next, up_front}
+use Rattle.real_export.proofs.PutLaws.{put_none, put_then, put_as, digits_one, digits_few}
 
 -- ---- names
 
 pub name_length : (j : ℕ) → length (spaced_name j) ≡ 2 + length (decimal j)
 unfolding spaced_name name_of ascii
 name_length j = omega arith
-
-pub put_name : (out : List ℕ) (at j end : ℕ) (last : List ℕ) → Puts (set (set out at 32) (at + 1) 120) (at + 2) (decimal j) end last
-    → Puts out at (spaced_name j) end last
-unfolding spaced_name name_of ascii
-put_name out at j end last p = let e : at + 2 ≡ suc (suc at) = omega arith in (omega (arith, p.0), p.1 ∙ rw (add-one at, e))
 
 module _ (w j : ℕ) where
   pub name_on : bit w j ≡ 1 → spaced_name j ≡ name_if w j
@@ -108,6 +86,38 @@ one_more_name w t a (suc k) off h l =
 pub names_few : (n w : ℕ) → n ≤ most_lines → length (names_on n w) ≤ 118
 names_few n w h = omega (arith, some-names w 0 n, all-names 0 n (omega arith))
 
+-- ---- the names, one a turn
+
+pub put_name : {o0 o1 o2 o3 : List ℕ} {at a b c : ℕ} (j : ℕ) → Put o0 at (32 ∷ []) o1 a → Put o1 a (120 ∷ []) o2 b → Put o2 b (decimal j) o3 c
+    → Put o0 at (spaced_name j) o3 c
+unfolding spaced_name name_of ascii
+put_name j p q r = put_then p (put_then q r)
+
+pub put_no_names : (old : List ℕ) (at w : ℕ) → Put old at (names_on 0 w) old at
+unfolding each up_from
+put_no_names old at w = put_none old at
+
+module _ (w i : ℕ) where
+  names_next : names_on (i + 1) w ≡ names_on i w ++ name_if w i
+  names_next = let e : 0 + i ≡ i = omega arith in up_next (name_if w) 0 i ∙ rw e refl
+
+  pub name_room : (n room at end : ℕ) → bit w i ≡ 1 → i < n → end ≡ at + length (names_on i w) → at + length (names_on n w) < room
+      → end + length (spaced_name i) < room
+  name_room n room at end on h told fits = omega (
+    arith,
+    ap length names_next,
+    length-append (names_on i w) (name_if w i),
+    ap length (name_on w i on),
+    up_front (name_if w) 0 (i + 1) n (omega arith),
+  )
+
+  pub put_on : {o0 o1 o2 : List ℕ} {at a b : ℕ} → bit w i ≡ 1 → Put o0 at (names_on i w) o1 a → Put o1 a (spaced_name i) o2 b
+      → Put o0 at (names_on (i + 1) w) o2 b
+  put_on on p q = put_as (put_then p (put_as q (name_on w i on))) (sym names_next)
+
+  pub put_off : {o0 o1 : List ℕ} {at a : ℕ} → (bit w i ≡ 1 → ⊥) → Put o0 at (names_on i w) o1 a → Put o0 at (names_on (i + 1) w) o1 a
+  put_off off p = put_as p (sym (names_next ∙ ap (λ t. names_on i w ++ t) (sym (name_off w i off)) ∙ append-nil (names_on i w)))
+
 -- ---- the line of a gate
 
 module _ (n : ℕ) (g : Gate) (fits : n ≤ most_lines) (ok : GateOk n g) where
@@ -136,6 +146,11 @@ module _ (n : ℕ) (g : Gate) (fits : n ≤ most_lines) (ok : GateOk n g) where
         name_length g.target,
       )
 
+  -- the same by the ones of the mask
+  pub gate_long : {ones : ℕ} → ones ≡ length (lines_on 32 g.controls)
+      → length (gate_text n g) ≡ 2 + length (decimal (ones + 1)) + length (names_on n g.controls) + length (spaced_name g.target)
+  gate_long many = omega (arith, gate-length, ap (λ x. length (decimal x)) (gate_lines _ many), name_length g.target)
+
   -- t and a number, at most 32 names, and LF
   pub gate_few : length (gate_text n g) ≤ 122
   unfolding is_control
@@ -149,31 +164,35 @@ module _ (n : ℕ) (g : Gate) (fits : n ≤ most_lines) (ok : GateOk n g) where
     all-names 0 n (omega arith),
   )
 
-  pub put_gate : (out : List ℕ) (at number names last : ℕ) (o1 o2 o3 : List ℕ)
-      → Puts (set out at 116) (at + 1) (decimal (suc (length (lines_on n g.controls)))) number o1
-      → Puts o1 number (names_on n g.controls) names o2
-      → Puts o2 names (spaced_name g.target) last o3
-      → Puts out at (gate_text n g) (last + 1) (set o3 last 10)
+  pub put_gate : {o0 o1 o2 o3 o4 o5 : List ℕ} {at a b c d e ones : ℕ} → ones ≡ length (lines_on 32 g.controls)
+      → Put o0 at (116 ∷ []) o1 a → Put o1 a (decimal (ones + 1)) o2 b → Put o2 b (names_on n g.controls) o3 c
+      → Put o3 c (spaced_name g.target) o4 d → Put o4 d (10 ∷ []) o5 e → Put o0 at (gate_text n g) o5 e
   unfolding gate_text ascii
-  put_gate out at number names last o1 o2 o3 p q r =
-      let d = decimal (suc (length (lines_on n g.controls))) in
-      let m = names_on n g.controls in
-      let t = spaced_name g.target in
-      put_then out at (116 ∷ []) (d ++ (m ++ (t ++ (10 ∷ [])))) (at + 1) (last + 1) (set out at 116) (set o3 last 10) (put_byte out at 116)
-      (put_then (set out at 116) (at + 1) d (m ++ (t ++ (10 ∷ []))) number (last + 1) o1 (set o3 last 10) p
-      (put_then o1 number m (t ++ (10 ∷ [])) names (last + 1) o2 (set o3 last 10) q
-      (put_then o2 names t (10 ∷ []) last (last + 1) o3 (set o3 last 10) r (put_byte o3 last 10))))
+  put_gate many p q r s t = put_then p (put_then (put_as q (ap decimal (gate_lines _ many))) (put_then r (put_then s t)))
 
 -- ---- the gates, one a turn
 
-module _ (n : ℕ) (words : List ℕ) (ok : Sound n words) (i number : ℕ) (g : Gate)
-    (h : i < length (gates_of words)) (e : number ≡ i + 1) (read : g ≡ gate_at (gates_of words) number) where
-  pub turn_ok : GateOk n g
-  turn_ok = rw read (gate_ok n words number ok (omega arith) (omega arith))
+pub put_no_gates : (n : ℕ) (old : List ℕ) (at : ℕ) → Put old at (each (gate_text n) []) old at
+unfolding each
+put_no_gates n old at = put_none old at
 
-  pub turn_more : each (gate_text n) (drop i (gates_of words)) ≡ gate_text n g ++ each (gate_text n) (drop (i + 1) (gates_of words))
-  turn_more = each_more (gate_text n) (gates_of words) i no_gate h
-      ∙ ap (λ gate. gate_text n gate ++ each (gate_text n) (drop (i + 1) (gates_of words))) (sym (read ∙ gate_entry (gates_of words) i number e))
+module _ (n : ℕ) (gates : List Gate) (i number : ℕ) (g : Gate) (h : i < length gates) (e : number ≡ i + 1) (read : g ≡ gate_at gates number) where
+  gates_next : each (gate_text n) (take (i + 1) gates) ≡ each (gate_text n) (take i gates) ++ gate_text n g
+  gates_next = each_next (gate_text n) gates i no_gate h
+      ∙ ap (λ gate. each (gate_text n) (take i gates) ++ gate_text n gate) (sym (read ∙ gate_entry gates i number e))
+
+  pub gate_room : (room at end : ℕ) → end ≡ at + length (each (gate_text n) (take i gates)) → at + length (each (gate_text n) gates) < room
+      → end + length (gate_text n g) < room
+  gate_room room at end told fits = omega (
+    arith,
+    ap length gates_next,
+    length-append (each (gate_text n) (take i gates)) (gate_text n g),
+    each_front (gate_text n) gates (i + 1),
+  )
+
+  pub put_gates_next : {o0 o1 o2 : List ℕ} {at a b : ℕ} → Put o0 at (each (gate_text n) (take i gates)) o1 a → Put o1 a (gate_text n g) o2 b
+      → Put o0 at (each (gate_text n) (take (i + 1) gates)) o2 b
+  put_gates_next p q = put_as (put_then p q) (sym gates_next)
 
 -- ---- the lines before the gates
 
@@ -193,18 +212,8 @@ module _ (n : ℕ) where
       let l = head_length in
       omega arith
 
-  pub put_head : (out : List ℕ) (a b c d e : ℕ) (o1 o2 o3 o4 o5 : List ℕ)
-      → Puts out 0 (ascii ".version 1.0\n.numvars ") a o1
-      → Puts o1 a (decimal n) b o2
-      → Puts o2 b (ascii "\n.variables") c o3
-      → Puts o3 c (names_on n (all_ones n)) d o4
-      → Puts o4 d (ascii "\n.begin\n") e o5
-      → Puts out 0 (head_text n) e o5
+  pub put_head : {o0 o1 o2 o3 o4 o5 : List ℕ} {a b c d e : ℕ} → Put o0 0 (ascii ".version 1.0\n.numvars ") o1 a → Put o1 a (decimal n) o2 b
+      → Put o2 b (ascii "\n.variables") o3 c → Put o3 c (names_on n (all_ones n)) o4 d → Put o4 d (ascii "\n.begin\n") o5 e
+      → Put o0 0 (head_text n) o5 e
   unfolding head_text
-  put_head out a b c d e o1 o2 o3 o4 o5 p q r s t =
-      let begin = ascii "\n.begin\n" in
-      let names = names_on n (all_ones n) ++ begin in
-      let variables = ascii "\n.variables" ++ names in
-      put_then out 0 (ascii ".version 1.0\n.numvars ") (decimal n ++ variables) a e o1 o5 p
-      (put_then o1 a (decimal n) variables b e o2 o5 q
-      (put_then o2 b (ascii "\n.variables") names c e o3 o5 r (put_then o3 c (names_on n (all_ones n)) begin d e o4 o5 s t)))
+  put_head p q r s t = put_then p (put_then q (put_then r (put_then s t)))

@@ -1,34 +1,48 @@
 -- Laws of texts that are put one after another.
-use Prim.Native.Nat.{ℕ, ◌+◌}
-use mathlib.Core.Path.{◌≡◌, refl, sym, ap, ◌∙◌}
-use mathlib.Core.List.{List, [], ◌∷◌, ◌++◌}
-use native.Mathlib.Omega.{arith}
-use lib.ListN.{length, set, length-append}
-use lib.Seq.{sets}
+use Rattle.std.specs.Prelude.{ℕ, ◌+◌, ◌<◌, ◌≤◌, ◌/◌, ◌%◌, ◌≡◌, refl, List, [], ◌∷◌, ◌++◌, length}
+use Rattle.std.proofs.Common.{sym, ap, ◌∙◌, arith, length-append}
+use Rattle.std.proofs.lemmas.List.Edits.{sets}
 use Rattle.basics.proofs.PutLaws.{sets-append}
+use Rattle.text.specs.Decimal.{digit, decimal}
+use Rattle.text.proofs.TextLaws.{decimal_small, decimal-more, digits_most, room_more}
+use Rattle.real_export.specs.Parts.{Put}
 
--- what a function that puts a text from a place on ensures: where it ends, and what is stored
-abbrev pub Puts : List ℕ → ℕ → List ℕ → ℕ → List ℕ → Type 0
-Puts out at text end last = (end ≡ at + length text) × (last ≡ sets out at text)
-
-pub put_byte : (out : List ℕ) (at b : ℕ) → Puts out at (b ∷ []) (at + 1) (set out at b)
-put_byte out at b = (refl, refl)
+pub put_none : (old : List ℕ) (at : ℕ) → Put old at [] old at
+put_none old at = record { told = omega arith; kept = refl; stored = λ h. refl }
 
 -- a part, and the rest after it
-pub put_then : (out : List ℕ) (at : ℕ) (t u : List ℕ) (mid end : ℕ) (last final : List ℕ)
-    → Puts out at t mid last → Puts last mid u end final → Puts out at (t ++ u) end final
-put_then out at t u mid end last final p q = (
-  omega (arith, length-append t u, p.0, q.0),
-  q.1 ∙ ap (λ l. sets l mid u) p.1 ∙ sets-append out at mid t u (sym p.0),
-)
+pub put_then : {old mid new : List ℕ} {at next end : ℕ} {t u : List ℕ} → Put old at t mid next → Put mid next u new end → Put old at (t ++ u) new end
+put_then {old} {mid} {new} {at} {next} {end} {t} {u} p q =
+    let told = p.told in
+    let more = q.told in
+    let same = p.kept in
+    let long = length-append t u in
+    record {
+      told = omega arith;
+      kept = q.kept ∙ p.kept;
+      stored = λ h. q.stored (omega arith) ∙ ap (λ l. sets l next u) (p.stored (omega arith)) ∙ sets-append old at next t u (sym p.told);
+    }
 
--- a turn of a loop that puts a text part by part: one part, and those that are left; and none
-pub put_turn : (out : List ℕ) (at : ℕ) (t rest all : List ℕ) (next : ℕ) (last : List ℕ) → Puts out at t next last → all ≡ t ++ rest
-    → (next + length rest ≡ at + length all) × (sets last next rest ≡ sets out at all)
-put_turn out at t rest all next last p e = (
-  omega (arith, ap length e ∙ length-append t rest, p.0),
-  ap (λ o. sets o next rest) p.1 ∙ sets-append out at next t rest (sym p.0) ∙ ap (sets out at) (sym e),
-)
+pub put_as : {old new : List ℕ} {at end : ℕ} {t u : List ℕ} → Put old at t new end → t ≡ u → Put old at u new end
+put_as p e = rw (← e) p
 
-pub put_none : (out : List ℕ) (at : ℕ) (rest : List ℕ) → rest ≡ [] → (at + length rest ≡ at) × (sets out at rest ≡ out)
-put_none out at rest e = rw e (omega arith, refl)
+-- ---- numbers below 100
+
+pub digits_one : (x : ℕ) → x < 10 → 1 ≡ length (decimal x)
+digits_one x h = rw (decimal_small x h)
+
+pub digits_two : (x : ℕ) → x < 100 → 10 ≤ x → 2 ≡ length (decimal x)
+digits_two x h k = rw (room_more x k, decimal_small (x / 10) (omega arith))
+
+pub digits_few : (x : ℕ) → x < 100 → length (decimal x) ≤ 2
+digits_few x h = digits_most 2 x (omega arith) (omega arith)
+
+pub put_digit : {old new : List ℕ} {at end : ℕ} (x : ℕ) → x < 10 → Put old at ((48 + x) ∷ []) new end → Put old at (decimal x) new end
+unfolding digit
+put_digit x h p = put_as p (sym (decimal_small x h))
+
+pub put_digits : {o0 o1 o2 : List ℕ} {at a b : ℕ} (x : ℕ) → x < 100 → 10 ≤ x → Put o0 at ((48 + x / 10) ∷ []) o1 a
+    → Put o1 a ((48 + x % 10) ∷ []) o2 b → Put o0 at (decimal x) o2 b
+unfolding digit
+put_digits x h k p q =
+    put_as (put_then p q) (sym (decimal-more x k ∙ ap (λ t. t ++ ((48 + x % 10) ∷ [])) (decimal_small (x / 10) (omega arith))))

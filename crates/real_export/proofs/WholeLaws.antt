@@ -1,12 +1,8 @@
 -- The parts of a text as they are put make the text.
-use Prim.Native.Nat.{ℕ, suc, ◌+◌, ◌≤◌}
-use mathlib.Core.Path.{◌≡◌, refl, sym, ap, ap₂, ◌∙◌}
-use mathlib.Core.List.{List, [], ◌∷◌, ◌++◌, map, append_assoc, append-nil}
-use native.Mathlib.Omega.{arith}
-use lib.ListN.{length, length-append}
-use lib.Seq.{sets}
-use lib.Dec.{eqb}
-use borrow.Author.Tests.{eq-eqb}
+use Rattle.std.specs.Prelude.{ℕ, suc, ◌+◌, ◌≤◌, ◌≡◌, refl, List, [], ◌∷◌, ◌++◌, map, length, eqb}
+use Rattle.std.proofs.Common.{sym, ap, ap₂, ◌∙◌, arith, append_assoc, length-append}
+use Rattle.std.proofs.lemmas.Bool.{eq-eqb}
+use Rattle.std.proofs.lemmas.List.{append-nil}
 use Rattle.basics.specs.Lists.{up_from, each, onto}
 use Rattle.basics.proofs.All.{all_map}
 use Rattle.basics.proofs.Kept.{keep-every}
@@ -20,9 +16,9 @@ use Rattle.circuit.specs.Gates.{gates_of}
 use Rattle.circuit.specs.Sound.{Sound}
 use Rattle.circuit.specs.declared.Gate.{Gate}
 use Rattle.real.specs.Export.{name_of, gate_line, head_lines, joined, line_text, real_text}
-use Rattle.real_export.specs.Parts.{spaced_name, name_if, names_on, gate_text, head_text}
+use Rattle.real_export.specs.Parts.{Put, spaced_name, name_if, names_on, gate_text, head_text}
 use Rattle.real_export.proofs.EachLaws.{each_append, each_keep, each_few}
-use Rattle.real_export.proofs.PutLaws.{Puts, put_then}
+use Rattle.real_export.proofs.PutLaws.{put_then, put_as}
 use Rattle.real_export.proofs.PartLaws.{gate_few, head_few}
 
 -- ---- names
@@ -85,7 +81,7 @@ end_text = refl
 -- ---- the whole text
 
 module _ (n : ℕ) (words : List ℕ) where
-  pub text_parts : head_text n ++ (each (gate_text n) (gates_of words) ++ ascii ".end\n") ≡ real_text n words
+  text_parts : head_text n ++ (each (gate_text n) (gates_of words) ++ ascii ".end\n") ≡ real_text n words
   unfolding real_text
   text_parts = sym (
       each_append line_text (head_lines n) (map (gate_line n) (gates_of words) ++ ((ascii ".end" ∷ []) ∷ []))
@@ -114,12 +110,14 @@ module _ (n : ℕ) (words : List ℕ) where
     pub text_few : length (real_text n words) ≤ 125094
     text_few = omega (arith, text_length, gates_few, head_few n ok.lines_fit)
 
-  pub put_whole : (out : List ℕ) (a b c : ℕ) (o1 o2 o3 : List ℕ) → length (real_text n words) ≤ length out
-      → Puts out 0 (head_text n) a o1
-      → Puts o1 a (each (gate_text n) (gates_of words)) b o2
-      → Puts o2 b (ascii ".end\n") c o3
-      → (c ≡ length (real_text n words)) × (o3 ≡ onto (real_text n words) out)
-  put_whole out a b c o1 o2 o3 h p q r =
-      let gates = each (gate_text n) (gates_of words) in
-      let w = put_then out 0 (head_text n) (gates ++ ascii ".end\n") a c o1 o3 p (put_then o1 a gates (ascii ".end\n") b c o2 o3 q r) in
-      (omega (arith, ap length text_parts, w.0), w.1 ∙ ap (sets out 0) text_parts ∙ sets_front out (real_text n words) h)
+  pub put_whole : {o0 o1 o2 o3 : List ℕ} {a b c : ℕ} → Put o0 0 (head_text n) o1 a → Put o1 a (each (gate_text n) (gates_of words)) o2 b
+      → Put o2 b (ascii ".end\n") o3 c → Put o0 0 (real_text n words) o3 c
+  put_whole p q r = put_as (put_then p (put_then q r)) text_parts
+
+  -- what is put where there is room for all of it
+  module _ {out new : List ℕ} {end : ℕ} (p : Put out 0 (real_text n words) new end) where
+    pub put_length : end ≡ length (real_text n words)
+    put_length = omega (arith, p.told)
+
+    pub put_onto : length (real_text n words) ≤ length out → new ≡ onto (real_text n words) out
+    put_onto h = p.stored (omega arith) ∙ sets_front out (real_text n words) h

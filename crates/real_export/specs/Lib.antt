@@ -1,4 +1,3 @@
 pub mod Parts
 pub mod Rules
-pub mod Answers
 pub mod Promises

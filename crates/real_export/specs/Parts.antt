@@ -1,5 +1,6 @@
 -- The parts of a text as they are put.
-use Rattle.std.specs.Prelude.{ℕ, suc, List, [], ◌++◌, length, eqb}
+use Rattle.std.specs.Prelude.{ℕ, suc, ◌+◌, ◌≤◌, ◌≡◌, List, [], ◌++◌, length, eqb}
+use Rattle.std.proofs.lemmas.List.Edits.{sets}
 use Rattle.basics.specs.Choice.{choice}
 use Rattle.basics.specs.Lists.{up_from, each}
 use Rattle.words.specs.Word.{bit, all_ones, lines_on}
@@ -29,3 +30,9 @@ gate_text n g =
 unfoldable pub head_text : ℕ → List ℕ
 head_text n =
     ascii ".version 1.0\n.numvars " ++ (decimal n ++ (ascii "\n.variables" ++ (names_on n (all_ones n) ++ ascii "\n.begin\n")))
+
+-- a text is put into bytes from a place on: where it ends is told, and it is stored if there is room for it
+pub record Put (old : List ℕ) (at : ℕ) (text : List ℕ) (new : List ℕ) (end : ℕ) : Type 0 where
+  pub told : end ≡ at + length text
+  pub kept : length new ≡ length old
+  pub stored : at + length text ≤ length old → new ≡ sets old at text

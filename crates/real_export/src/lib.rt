@@ -2,29 +2,20 @@
 #![tactic(auto)]
 
 ghost use Rattle.std.specs.Prelude.{◌≡◌};
-ghost use Rattle.real_export.specs.Answers.{told_exported};
+ghost use Rattle.refusals.specs.Answers.{told_word};
 ghost use Rattle.real_export.specs.Promises.{export_tells, export_leaves};
 
-use refusals::{Checked, Refusal};
+use refusals::Refusal;
 
-mod lengths;
 mod rules;
 mod writing;
 
-// The number of bytes of the text.
-#[derive(Clone, Copy)]
-pub enum Exported {
-    Bytes(u32),
-    Refused(Refusal),
-}
-
-// A circuit as a text, into the front of some bytes. A refused call changes nothing.
-pub fn export(lines: u32, gates: &[u32], out: &mut [u8]) -> Exported
-    ensures { (told_exported result ≡ export_tells lines gates.now out.old)
+// A circuit as a text, into the front of some bytes; the answer is the number of bytes of the text. A refused call changes nothing.
+#[tactic(auto, using(refusals::proofs::Tables::calls, crate::proofs::RuleLaws::texts))]
+pub fn export(lines: u32, gates: &[u32], out: &mut [u8]) -> Result<u32, Refusal>
+    ensures { (told_word result ≡ export_tells lines gates.now out.old)
         × (out.new ≡ export_leaves lines gates.now out.old) }
 {
-    match rules::check_export(lines, gates, out.len()) {
-        Checked::Wrong(refusal) => Exported::Refused(refusal),
-        Checked::Fine => Exported::Bytes(writing::write_text(lines, gates, out)),
-    }
+    let circuit = rules::check_export(lines, gates, out.len())?;
+    Ok(writing::put_text(&circuit, out) as u32)
 }

@@ -1,25 +1,22 @@
 // The rules of an export.
-ghost use Rattle.std.specs.Prelude.{◌≡◌};
+ghost use Rattle.std.specs.Prelude.{◌≡◌, IfOk};
 ghost use Rattle.refusals.specs.Tables.{first_of};
-ghost use Rattle.refusals.specs.Checks.{fine, found};
+ghost use Rattle.refusals.specs.Answers.{fine, found};
+ghost use Rattle.circuit.specs.Checked.{Has};
 ghost use Rattle.real_export.specs.Rules.{export_rows};
 
-use crate::lengths::text_length;
+use crate::writing;
+use circuit::checked::Circuit;
 use circuit::rules::check_circuit;
-use refusals::{Checked, Refusal};
+use refusals::{Refusal, refuse_when};
 
 // The rules of a circuit that is written into room for so many bytes.
-pub fn check_export(lines: u32, gates: &[u32], room: usize) -> Checked
-    ensures { found result ≡ first_of (export_rows lines gates.now room) fine }
+#[tactic(auto, using(refusals::proofs::Tables::turns), unfolding(crate::specs::Rules::export_rows))]
+pub fn check_export<'a>(lines: u32, gates: &'a [u32], room: usize) -> Result<Circuit<'a>, Refusal>
+    ensures rules { found result ≡ first_of (export_rows lines gates.now room) fine }
+    ensures circuit { IfOk result (Has lines gates.now) }
 {
-    if let Checked::Wrong(refusal) = check_circuit(lines, gates) {
-        return Checked::Wrong(refusal);
-    }
-    if room < text_length(lines, gates) {
-        return Checked::Wrong(Refusal {
-            number: 10,
-            place: 0,
-        });
-    }
-    Checked::Fine
+    let circuit = check_circuit(lines, gates)?;
+    refuse_when(room < writing::text_length(&circuit), Refusal::Room)?;
+    Ok(circuit)
 }

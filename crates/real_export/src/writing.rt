@@ -1,113 +1,124 @@
-// The text of a circuit that breaks no rule, put part by part. Each `put` answers where what it put ends.
-ghost use Rattle.std.specs.Prelude.{◌≡◌, ◌+◌, ◌<◌, ◌≤◌, length};
-ghost use Rattle.std.proofs.lemmas.List.Edits.{sets};
-ghost use Rattle.basics.specs.Lists.{each, onto};
-ghost use Rattle.circuit.specs.Gates.{gates_of};
+// The text of a circuit, put part by part. Each `put` answers where what it puts ends, and stores it where there is room for it:
+// so a text that is put into no bytes is counted.
+ghost use Rattle.std.specs.Prelude.{◌≡◌, ◌+◌, ◌<◌, ◌≤◌, ◌^◌, [], ◌∷◌, length};
+ghost use Rattle.basics.specs.Lists.{each};
+ghost use Rattle.text.specs.Decimal.{decimal};
+ghost use Rattle.circuit.specs.Checked.{gates_in};
 ghost use Rattle.circuit.specs.Limits.{most_lines};
-ghost use Rattle.circuit.specs.Sound.{GateOk, Sound};
 ghost use Rattle.real.specs.Export.{real_text};
-ghost use Rattle.real_export.specs.Parts.{spaced_name, name_if, names_on, gate_text, head_text};
+ghost use Rattle.real_export.specs.Parts.{Put, spaced_name, names_on, gate_text, head_text};
 
-use circuit::{Gate, checked, numbers};
-use text::{put_bytes, put_decimal};
+use circuit::checked::{Circuit, OwnGate};
+use circuit::numbers;
+use text::put_bytes;
 use words;
+
+// Bytes as they are.
+fn put(out: &mut [u8], at: usize, bytes: &[u8]) -> usize
+    requires { at + length bytes.now < 2 ^ 63 }
+    ensures { Put out.old at bytes.now out.new result }
+{
+    if at + bytes.len() <= out.len() {
+        return put_bytes(out, at, bytes);
+    }
+    at + bytes.len()
+}
+
+// One byte.
+fn put_byte(out: &mut [u8], at: usize, byte: u8) -> usize
+    requires { at + 1 < 2 ^ 63 }
+    ensures { Put out.old at (byte ∷ []) out.new result }
+{
+    if at < out.len() {
+        out[at] = byte;
+    }
+    at + 1
+}
+
+// A number below 100 in decimal.
+fn put_number(out: &mut [u8], at: usize, x: u32) -> usize
+    requires { (x < 100) × (at + length (decimal x) < 2 ^ 63) }
+    ensures { Put out.old at (decimal x) out.new result }
+{
+    if x < 10 {
+        return put_byte(out, at, b'0' + x as u8);
+    }
+    let last = put_byte(out, at, b'0' + (x / 10) as u8);
+    put_byte(out, last, b'0' + (x % 10) as u8)
+}
 
 // One blank and the name of a line.
 fn put_name(out: &mut [u8], at: usize, line: u32) -> usize
-    requires { at + length (spaced_name line) ≤ length out.old }
-    ensures { (result ≡ at + length (spaced_name line)) × (out.new ≡ sets out.old at (spaced_name line)) }
+    requires { (line < most_lines) × (at + length (spaced_name line) < 2 ^ 63) }
+    ensures { Put out.old at (spaced_name line) out.new result }
 {
-    out[at] = b' ';
-    out[at + 1] = b'x';
-    put_decimal(out, at + 2, line)
-}
-
-// The same of a line that is 1 in a word, and else nothing.
-fn put_name_if(out: &mut [u8], at: usize, word: u32, line: u32) -> usize
-    requires line_lt_most_lines { line < most_lines }
-    requires line_in_bounds { at + length (name_if word line) ≤ length out.old }
-    ensures { (result ≡ at + length (name_if word line)) × (out.new ≡ sets out.old at (name_if word line)) }
-{
-    if words::checked::value(word, line) == 1 {
-        return put_name(out, at, line);
-    }
-    at
+    let letter = put_byte(out, at, b' ');
+    let number = put_byte(out, letter, b'x');
+    put_number(out, number, line)
 }
 
 // The names of the lines that are 1 in a word, rising.
 fn put_names(out: &mut [u8], at: usize, lines: u32, word: u32) -> usize
-    requires lines_le_most_lines { lines ≤ most_lines }
-    requires word_in_bounds { at + length (names_on lines word) ≤ length out.old }
-    ensures { (result ≡ at + length (names_on lines word)) × (out.new ≡ sets out.old at (names_on lines word)) }
+    requires { (lines ≤ most_lines) × (at + length (names_on lines word) < 2 ^ 63) }
+    ensures { Put out.old at (names_on lines word) out.new result }
 {
     let mut end = at;
-    let mut left = lines;
-    while 0 < left {
-        end = put_name_if(out, end, word, lines - left);
-        left -= 1;
+    for line in 0..lines {
+        if words::checked::value(word, line) == 1 {
+            end = put_name(out, end, line);
+        }
     }
     end
 }
 
 // The line of a gate.
-fn put_gate(out: &mut [u8], at: usize, lines: u32, gate: Gate) -> usize
-    requires lines_le_most_lines { (lines ≤ most_lines) × GateOk lines gate }
-    requires gate_in_bounds { at + length (gate_text lines gate) ≤ length out.old }
-    ensures { (result ≡ at + length (gate_text lines gate)) × (out.new ≡ sets out.old at (gate_text lines gate)) }
+fn put_gate(out: &mut [u8], at: usize, own: OwnGate) -> usize
+    requires { at + length (gate_text own.lines own.gate) < 2 ^ 63 }
+    ensures { Put out.old at (gate_text own.lines own.gate) out.new result }
 {
-    let controls = gate.controls;
-    let target = gate.target;
-    out[at] = b't';
-    let number = put_decimal(out, at + 1, words::ones(controls) + 1);
-    let names = put_names(out, number, lines, controls);
-    let last = put_name(out, names, target);
-    out[last] = b'\n';
-    last + 1
+    let number = put_byte(out, at, b't');
+    let names = put_number(out, number, words::ones(own.gate.controls) + 1);
+    let target = put_names(out, names, own.lines, own.gate.controls);
+    let last = put_name(out, target, own.gate.target);
+    put_byte(out, last, b'\n')
 }
 
 // The lines of all gates.
-fn put_gates(out: &mut [u8], at: usize, lines: u32, gates: &[u32]) -> usize
-    requires sound { Sound lines gates.now }
-    requires gates_in_bounds { at + length (each (gate_text lines) (gates_of gates.now)) ≤ length out.old }
-    ensures { (result ≡ at + length (each (gate_text lines) (gates_of gates.now)))
-        × (out.new ≡ sets out.old at (each (gate_text lines) (gates_of gates.now))) }
+fn put_gates(out: &mut [u8], at: usize, circuit: &Circuit) -> usize
+    requires { at + length (each (gate_text circuit.now.lines) (gates_in circuit.now)) < 2 ^ 63 }
+    ensures { Put out.old at (each (gate_text circuit.now.lines) (gates_in circuit.now)) out.new result }
 {
-    let whole = gates.len() / 3;
     let mut end = at;
-    let mut i = 0;
-    while i < whole {
-        end = put_gate(
-            out,
-            end,
-            lines,
-            checked::gate_at(gates, numbers::gate(i + 1)),
-        );
-        i += 1;
+    for i in 0..circuit.depth() {
+        end = put_gate(out, end, circuit.own_gate(numbers::gate(i + 1)));
     }
     end
 }
 
 // The lines before the gates.
 fn put_head(out: &mut [u8], lines: u32) -> usize
-    requires lines_le_most_lines { lines ≤ most_lines }
-    requires lines_in_bounds { length (head_text lines) ≤ length out.old }
-    ensures { (result ≡ length (head_text lines)) × (out.new ≡ sets out.old 0 (head_text lines)) }
+    requires { lines ≤ most_lines }
+    ensures { Put out.old 0 (head_text lines) out.new result }
 {
-    let version = put_bytes(out, 0, b".version 1.0\n.numvars ");
-    let number = put_decimal(out, version, lines);
-    let word = put_bytes(out, number, b"\n.variables");
-    let names = put_names(out, word, lines, words::checked::all_ones(lines));
-    put_bytes(out, names, b"\n.begin\n")
+    let number = put(out, 0, b".version 1.0\n.numvars ");
+    let variables = put_number(out, number, lines);
+    let names = put(out, variables, b"\n.variables");
+    let begin = put_names(out, names, lines, words::checked::all_ones(lines));
+    put(out, begin, b"\n.begin\n")
 }
 
-// The whole text, and its length.
-pub fn write_text(lines: u32, gates: &[u32], out: &mut [u8]) -> u32
-    requires sound { Sound lines gates.now }
-    requires gates_in_bounds { length (real_text lines gates.now) ≤ length out.old }
-    ensures { (result ≡ length (real_text lines gates.now))
-        × (out.new ≡ onto (real_text lines gates.now) out.old) }
+// The whole text.
+pub fn put_text(circuit: &Circuit, out: &mut [u8]) -> usize
+    ensures { Put out.old 0 (real_text circuit.now.lines circuit.now.gates.now) out.new result }
 {
-    let head = put_head(out, lines);
-    let end = put_gates(out, head, lines, gates);
-    put_bytes(out, end, b".end\n") as u32
+    let gates = put_head(out, circuit.lines);
+    let end = put_gates(out, gates, circuit);
+    put(out, end, b".end\n")
+}
+
+// How long it is.
+pub fn text_length(circuit: &Circuit) -> usize
+    ensures { result ≡ length (real_text circuit.now.lines circuit.now.gates.now) }
+{
+    put_text(circuit, &mut [])
 }

@@ -1,28 +1,25 @@
 -- Laws of controls read one by one: each that is declared and new makes one line of the mask 1, and any other ends the reading.
-use Prim.Native.Nat.{ℕ, zero, suc, ◌+◌, ◌-◌, ◌^◌, ◌<◌, ◌≤◌}
-use mathlib.Core.Path.{◌≡◌, refl, sym, ap, ◌∙◌}
-use mathlib.Core.Bool.{Bool, true, false, not, ◌&&◌, ◌||◌, false≢true, and_assoc, or_assoc, and-true as and-all, or-false as or-none}
-use mathlib.Core.List.{List, [], ◌∷◌, ◌++◌}
-use native.Mathlib.Omega.{arith}
-use native.Mathlib.Numerals.{add-one}
-use lib.ListN.{length, take, drop, get_or}
-use lib.Seq.{take-suc, take-take, get_or-take, length-take-le}
-use lib.Dec.{eqb}
-use borrow.Author.Tests.{eq-eqb, ne_eqb, not-true}
+use Rattle.std.specs.Prelude.{ℕ, zero, suc, ◌+◌, ◌-◌, ◌^◌, ◌<◌, ◌≤◌, ◌≡◌, refl, Bool, true, false, not, ◌&&◌, ◌||◌, eqb}
+use Rattle.std.specs.Prelude.{Option, Some, None, is_some, List, [], ◌∷◌, ◌++◌, length, take, drop}
+use Rattle.std.proofs.Common.{sym, ap, ◌∙◌, arith, add-one, get_or, drop-cons, length-drop, take-suc, take-take, get_or-take, length-take-le}
+use Rattle.std.proofs.lemmas.Bool.{eq-eqb, ne_eqb, not-true, false≢true}
+use mathlib.Core.Bool.{and_assoc, or_assoc, and-true as and-all, or-false as or-none}
 use Rattle.basics.specs.Lists.{some}
 use Rattle.basics.proofs.Tests.{by_test, by_equal, and_both, and-true, and_left, and_right, or-false, or_right, or_neither}
 use Rattle.words.specs.Word.{bit, flip}
 use Rattle.words.proofs.Bits.{bit_le, bit_of_zero}
 use Rattle.words.proofs.Lines.{bit-flip-same, bit_flip_other, flip-adds}
 use Rattle.text.specs.Texts.{every, same, among, distinct, place}
-use Rattle.text.proofs.SameLaws.{same_refl, same_true, place_found, place_passed, among_placed}
-use Rattle.text_words.specs.Words.{words_of}
-use Rattle.text_words.specs.Runs.{part, WordAt}
-use Rattle.text_words.proofs.PlaceLaws.{place-le, place-most, Listed, listed}
+use Rattle.text.proofs.SameLaws.{same_refl, same_true, place_found, place_passed, among_placed, among_nowhere}
+use Rattle.text_words.specs.Runs.{IsPlace}
+use Rattle.text_words.proofs.PlaceLaws.{place-le}
 use Rattle.real.specs.Form.{Word, mask_of}
-use Rattle.real_gates.specs.Keys.{Known}
 use Rattle.real_gates.specs.Gates.{are_controls, Masked}
-use Rattle.real_gates.proofs.KeyLaws.{among-unknown}
+
+-- a word is declared where it has a place
+pub among_found : (names : List Word) (word : Word) (found : Option ℕ) → IsPlace names word found → is_some found ≡ among word names
+among_found names word None p = sym (among_nowhere names word p)
+among_found names word (Some i) p = sym (among_placed names word (λ z. omega (arith, p.0, p.1)))
 
 -- ---- one text more at the end
 
@@ -118,68 +115,57 @@ masks_last names ws m w k h e =
           ∙ sym (among_last t ws w ∙ ap (λ b. among t ws || b) other ∙ or-none (among t ws)));
     }
 
--- some words of a line were read: where the others start, and the mask of these
-pub record Reading (names rest : List ℕ) (mask at i : ℕ) : Type 0 where
-  pub fits : at ≤ length rest
-  pub left : words_of (drop at rest) ≡ drop i (words_of rest)
-  pub masks : Masks (words_of names) (take i (words_of rest)) mask
+-- some words were read: the others, and the mask of these
+pub record Reading (names words left : List Word) (mask i : ℕ) : Type 0 where
+  pub rest : left ≡ drop i words
+  pub masks : Masks names (take i words) mask
 
-pub reading_none : (names rest : List ℕ) → Reading names rest 0 0 0
-reading_none names rest = record { fits = omega arith; left = refl; masks = masks_none (words_of names) }
+pub reading_none : (names words : List Word) → Reading names words words 0 0
+reading_none names words = record { rest = refl; masks = masks_none names }
 
-pub masked : {names rest : List ℕ} {mask at i wanted : ℕ} → Reading names rest mask at i → i ≡ wanted
-    → Masked (words_of names) rest wanted mask at
-masked k e = rw (← e) (record { fits = k.fits; left = k.left; right = k.masks.right; is = k.masks.is })
+pub masked : {names words left : List Word} {mask i : ℕ} → Reading names words left mask i → Masked names words i mask left
+masked k = record { rest = k.rest; right = k.masks.right; is = k.masks.is }
 
--- the next word and its line
-module _ {names keys rest : List ℕ} {count at from to line : ℕ} (known : Known names keys count) (n : WordAt rest at from to)
-    (e : line ≡ place (words_of names) (part rest from to)) where
-  abbrev us : List Word
-  us = words_of names
+-- the next word: it is one control more, or ends the reading
+module _ {names words left : List Word} {mask i wanted : ℕ} (k : Reading names words left mask i)
+    (h : i < wanted) (enough : wanted ≤ length words) where
+  pub some_left : left ≡ [] → ⊥
+  some_left e = let y = ap length (sym k.rest ∙ e) in omega (arith, length-drop i words)
 
-  abbrev ws : List Word
-  ws = words_of rest
+  module _ {word : Word} {more : List Word} (e : left ≡ word ∷ more) where
+    parts : word ∷ more ≡ get_or words i [] ∷ drop (suc i) words
+    parts = sym e ∙ k.rest ∙ drop-cons words i [] (omega arith)
 
-  pub line_below : (line ≡ count → ⊥) → line < count
-  line_below d = let m = place-most us (part rest from to) in let c = known.counted in omega arith
+    next : get_or words i [] ≡ word
+    next = let p = parts in cc
 
-  -- it is one control more, or ends the reading
-  module _ {mask i wanted : ℕ} (k : Reading names rest mask at i) (h : i < wanted) (enough : wanted ≤ length (words_of rest)) where
-    next : Listed rest i from to
-    next = listed rest at from to i n k.left (omega arith)
+    after : more ≡ drop (suc i) words
+    after = let p = parts in cc
 
-    is : place us (get_or ws i []) ≡ line
-    is = sym (e ∙ ap (place us) next.word)
+    here : get_or (take wanted words) i [] ≡ word
+    here = get_or-take wanted words i [] h ∙ next
 
-    here : get_or (take wanted ws) i [] ≡ get_or ws i []
-    here = get_or-take wanted ws i [] h
+    earlier : take i (take wanted words) ≡ take i words
+    earlier = take-take i wanted words (omega arith)
 
-    earlier : take i (take wanted ws) ≡ take i ws
-    earlier = take-take i wanted ws (omega arith)
+    below : i < length (take wanted words)
+    below = let f = length-take-le wanted words enough in omega arith
 
-    below : i < length (take wanted ws)
-    below = let f = length-take-le wanted ws enough in omega arith
+    pub not_declared : place names word ≡ length names → are_controls names (take wanted words) ≡ false
+    not_declared f = and_left (distinct (take wanted words)) (every_fails (declared names) (take wanted words) i [] below
+        (ap (declared names) here ∙ among_nowhere names word f))
 
-    pub not_declared : line ≡ count → are_controls us (take wanted ws) ≡ false
-    not_declared f = and_left (distinct (take wanted ws)) (every_fails (declared us) (take wanted ws) i [] below
-        (ap (declared us) here ∙ among-unknown names keys count known (get_or ws i []) line (sym is) f))
+    module _ {line : ℕ} (p : line ≡ place names word) (q : line < length names) where
+      pub twice_named : bit mask line ≡ 1 → are_controls names (take wanted words) ≡ false
+      twice_named f = and_right (every (declared names) (take wanted words)) (distinct_fails (take wanted words) i below
+          (rw (here, earlier) (sym (k.masks.on word (omega arith)) ∙ eq-eqb (bit mask (place names word)) 1 (rw (← p) f))))
 
-    module _ (other : line ≡ count → ⊥) where
-      stands : place us (get_or ws i []) < length us
-      stands = let b = line_below other in let c = known.counted in let f = is in omega arith
-
-      pub twice_named : bit mask line ≡ 1 → are_controls us (take wanted ws) ≡ false
-      twice_named f = and_right (every (declared us) (take wanted ws)) (distinct_fails (take wanted ws) i below
-          (rw (here, earlier) (sym (k.masks.on (get_or ws i []) stands)
-          ∙ eq-eqb (bit mask (place us (get_or ws i []))) 1 (ap (bit mask) is ∙ f))))
-
-      pub control_more : {more : ℕ} → (bit mask line ≡ 1 → ⊥) → more ≡ flip mask line → Reading names rest more to (i + 1)
-      control_more d f =
-          let w : take (i + 1) ws ≡ take i ws ++ (get_or ws i [] ∷ []) = rw (add-one i) (take-suc ws i [] (omega arith)) in
+      pub control_more : (bit mask line ≡ 1 → ⊥) → Reading names words more (flip mask line) (i + 1)
+      control_more d =
+          let w : take (i + 1) words ≡ take i words ++ (word ∷ []) = rw (add-one i, ← next) (take-suc words i [] (omega arith)) in
           let b = bit_le mask line in
           let off : bit mask line ≡ 0 = omega arith in
           record {
-            fits = n.fits;
-            left = next.rest;
-            masks = rw (w, f, ← is) (masks_last us (take i ws) mask (get_or ws i []) k.masks stands (ap (bit mask) is ∙ off));
+            rest = rw (add-one i) after;
+            masks = rw (w, p) (masks_last names (take i words) mask word k.masks (omega arith) (rw (← p) off));
           }

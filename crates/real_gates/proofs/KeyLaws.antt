@@ -1,59 +1,59 @@
 -- Laws of names as numbers: a key tells its name, so the place of a name's key is the name's place.
-use Prim.Native.Nat.{ℕ, zero, suc, ◌+◌, ◌-◌, ◌*◌, ◌^◌, ◌<◌, ◌≤◌}
-use mathlib.Core.Path.{◌≡◌, refl, sym, ap, ap₂, ◌∙◌}
-use mathlib.Core.Bool.{true, false, ◌&&◌, ◌||◌, false≢true}
-use mathlib.Core.List.{List, [], ◌∷◌, ◌++◌, map, map-append}
-use native.Mathlib.Omega.{arith}
-use native.Mathlib.Numerals.{add-one}
-use lib.ListN.{length, take, drop, get_or, set, length-set, drop_of_length-le}
-use lib.Seq.{drop-cons, take_all, take-suc, take-suc-set, length-take-le, get_or-take}
-use lib.Pow.{pow-add, pow_mono}
-use lib.Dec.{eqb, leb}
-use borrow.Author.Tests.{eq-eqb, ne_eqb, eqb-true, leb-true}
-use Rattle.basics.proofs.Tests.{by_test, and_both, choice-true, choice-false}
-use Rattle.text.specs.Texts.{every, same, among, place}
+use Rattle.std.specs.Prelude.{ℕ, zero, suc, ◌+◌, ◌-◌, ◌*◌, ◌<◌, ◌≤◌, ◌≡◌, refl, true, false, ◌&&◌, ◌||◌, eqb, leb}
+use Rattle.std.specs.Prelude.{Option, Some, None, MatchOption, List, [], ◌∷◌, ◌++◌, map, length, take, drop}
+use Rattle.std.specs.Borrow.{Bor}
+use Rattle.std.specs.Int.{w64, from_le_bytes}
+use Rattle.std.specs.List.{position, position_or_len}
+use Rattle.std.proofs.Common.{ap, ap₂, sym, ◌∙◌, arith, add-one}
+use Rattle.std.proofs.Common.{get_or, set, replicate, drop-cons, drop_of_length-le, take-suc, take-suc-set, take-take, take_all}
+use Rattle.std.proofs.lemmas.Bool.{eq-eqb, ne_eqb, eqb-true, eqb-false, leb-true, false≢true}
+use Rattle.std.proofs.lemmas.List.{length-append, length-drop, length-map, map-append}
+use lib.Pointwise.{pointwise}
+use Rattle.basics.proofs.Tests.{by_test, and_both}
+use Rattle.text.specs.Texts.{every, same, place}
 use Rattle.text.specs.Decimal.{is_digit}
-use Rattle.text.proofs.SameLaws.{same_refl, same_true, place_found, place_passed, place_none, among_placed, among_nowhere}
-use Rattle.text_words.specs.Words.{words_of}
-use Rattle.text_words.specs.Runs.{part, WordAt}
-use Rattle.text_words.proofs.RunLaws.{words_none, words-some}
-use Rattle.text_words.proofs.PlaceLaws.{listed}
+use Rattle.text.proofs.SameLaws.{same_refl, same_true, same_is_pointwise, place_passed, place_none}
+use Rattle.text_words.specs.Runs.{IsPlace}
+use Rattle.text_words.proofs.PlaceLaws.{placed}
 use Rattle.real.specs.Form.{Word, is_letter, is_name_byte, is_name}
-use Rattle.real_gates.specs.Keys.{key_of, key_place, Known}
+use Rattle.real_gates.specs.Keys.{key_of, AreKeys}
 
--- ---- the key of a word from a place on, eight bits a byte
+-- ---- the key of a word is what its bytes make, with zeros up to eight
 
-pub record Keying (word : Word) (key i : ℕ) : Type 0 where
-  pub fits : i ≤ length word
-  pub is : key ≡ key_of (drop i word)
-  pub below : key < 2 ^ (8 * (length word - i))
-
-pub keying_none : (word : Word) → Keying word 0 (length word)
+key_at : (word : Word) (i : ℕ) → key_of (drop i word) ≡ get_or word i 0 + 256 * key_of (drop (suc i) word)
 unfolding key_of
-keying_none word =
-    let e : 8 * (length word - length word) ≡ 0 = omega arith in
-    record { fits = omega arith; is = sym (ap key_of (drop_of_length-le word {i = length word} (omega arith))); below = rw e (omega arith) }
+key_at [] zero = refl
+key_at [] (suc i) = refl
+key_at (b ∷ word) zero = refl
+key_at (b ∷ word) (suc i) = key_at word i
 
-module _ (word : Word) (key i : ℕ) (so_far : Keying word key i) where
-  -- there is room for one byte more
-  pub key_room : length word ≤ 8 → 1 ≤ i → key < 2 ^ 56
-  key_room h k =
-      let b = so_far.below in
-      let m : 8 * (length word - i) ≤ 56 = omega arith in
-      omega (arith, pow_mono {i = 8 * (length word - i)} {j = 56} m)
+key_end : (word : Word) (i : ℕ) → length word ≤ i → key_of (drop i word) ≡ 0
+unfolding key_of
+key_end word i h = ap key_of (drop_of_length-le word {i = i} h)
 
-  pub keying_more : 1 ≤ i → get_or word (i - 1) 0 < 256 → Keying word (key * 256 + get_or word (i - 1) 0) (i - 1)
-  unfolding key_of
-  keying_more h k =
-      let n = so_far.fits in
-      let b = so_far.below in
-      let e : suc (i - 1) ≡ i = omega arith in
-      let f : drop (i - 1) word ≡ get_or word (i - 1) 0 ∷ drop i word = drop-cons word (i - 1) 0 (omega arith) ∙ rw e in
-      let g : 8 * (length word - (i - 1)) ≡ 8 * (length word - i) + 8 = omega arith in
-      record { fits = omega arith; is = omega (arith, so_far.is, ap key_of f); below = rw g (omega (arith, pow-add 2 (8 * (length word - i)) 8)) }
+eight_read : (word : Word) → length word ≤ 8 → from_le_bytes w64 word ≡ key_of word
+eight_read word h =
+    let at = key_at word in
+    omega (arith, at 0, at 1, at 2, at 3, at 4, at 5, at 6, at 7, key_end word 8 h)
 
-  pub keyed : i ≤ 0 → key ≡ key_of word
-  keyed h = let e : i ≡ 0 = omega arith in so_far.is ∙ rw e
+key_zeros : (i n : ℕ) → key_of (drop i (replicate n 0)) ≡ 0
+unfolding key_of
+key_zeros zero zero = refl
+key_zeros zero (suc n) = let e = key_zeros zero n in omega arith
+key_zeros (suc i) zero = refl
+key_zeros (suc i) (suc n) = key_zeros i n
+
+key_padded : (word zeros : Word) → key_of zeros ≡ 0 → key_of (word ++ zeros) ≡ key_of word
+unfolding key_of
+key_padded [] zeros e = e
+key_padded (b ∷ word) zeros e = ap (λ key. b + 256 * key) (key_padded word zeros e)
+
+pub key_read : (word : Word) → length word ≤ 8 → from_le_bytes w64 (word ++ drop (length word) (replicate 8 0)) ≡ key_of word
+key_read word h =
+    let zeros : Word = drop (length word) (replicate 8 0) in
+    let many : length zeros ≡ 8 - length word = length-drop (length word) (replicate {A = ℕ} 8 0) in
+    let whole : length (word ++ zeros) ≤ 8 = omega (arith, length-append word zeros) in
+    eight_read (word ++ zeros) whole ∙ key_padded word zeros (key_zeros (length word) 8)
 
 -- ---- a key tells its name
 
@@ -95,19 +95,25 @@ key_name t u h k e = key_one t u (name_bytes t h) (name_bytes u k) e
 
 -- ---- the place of a key is that of its name
 
-pub key_place_lem : (names : List Word) (word : Word) → every is_name names ≡ true → is_name word ≡ true
-    → key_place (map key_of names) (key_of word) ≡ place names word
-unfolding key_place every
-key_place_lem [] word h k = sym (place_none word)
-key_place_lem (name ∷ names) word h k =
+same_key : (name word : Word) → is_name name ≡ true → is_name word ≡ true → eqb (key_of name) (key_of word) ≡ pointwise eqb name word
+same_key name word h k = by_test (same name word)
+    (λ e. eq-eqb (key_of name) (key_of word) (ap key_of (same_true name word e)) ∙ sym (same_is_pointwise name word ∙ e))
+    (λ e. ne_eqb (key_of name) (key_of word) (λ z.
+    absurd (false≢true (sym e ∙ ap (same name) (sym (key_name name word h k z)) ∙ same_refl name)))
+    ∙ sym (same_is_pointwise name word ∙ e))
+
+key_place : (names : List Word) (word : Word) → every is_name names ≡ true → is_name word ≡ true
+    → position_or_len (λ key. eqb key (key_of word)) (map key_of names) ≡ position_or_len (λ name. pointwise eqb name word) names
+unfolding every
+key_place [] word h k = refl
+key_place (name ∷ names) word h k =
     let w = and_both (is_name name) (every is_name names) h in
-    by_test (same name word)
-    (λ e. choice-true (eq-eqb (key_of name) (key_of word) (ap key_of (same_true name word e))) _ _ ∙ sym (place_found name names word e))
-    (λ e. choice-false (ne_eqb (key_of name) (key_of word) (λ z. absurd (differ name word e (key_name name word w.0 k z)))) _ _
-    ∙ ap suc (key_place_lem names word w.1 k) ∙ sym (place_passed name names word e))
-  where
-    differ : (t u : Word) → same t u ≡ false → t ≡ u → ⊥
-    differ t u e z = false≢true (sym e ∙ ap (same t) (sym z) ∙ same_refl t)
+    rw (same_key name word w.0 k, key_place names word w.1 k) refl
+
+pub key_found : (names : List Word) (word : Word) (keys : List ℕ) (found : Option ℕ) → every is_name names ≡ true → is_name word ≡ true
+    → keys ≡ map key_of names → found ≡ position (λ key. eqb key (key_of word)) keys → IsPlace names word found
+key_found names word keys found h k e f =
+    placed names word found (f ∙ rw (e, key_place names word h k, length-map names key_of) refl)
 
 -- what is no name is none of the names
 pub no_name_place : (names : List Word) (word : Word) → every is_name names ≡ true → is_name word ≡ false → place names word ≡ length names
@@ -119,104 +125,58 @@ no_name_place (name ∷ names) word h k =
     (λ e. absurd (false≢true (sym k ∙ sym (ap is_name (same_true name word e)) ∙ w.0)))
     (λ e. place_passed name names word e ∙ ap suc (no_name_place names word w.1 k))
 
--- ---- the first keys, so many, from one on: an equal one, another, none
-
-module _ (keys : List ℕ) (count key i : ℕ) (fits : count ≤ length keys) where
-  first_key : i < count → drop i (take count keys) ≡ get_or keys i 0 ∷ drop (i + 1) (take count keys)
-  first_key h =
-      drop-cons (take count keys) i 0 (rw (length-take-le count keys fits) h)
-      ∙ ap₂ (λ k l. k ∷ l) (get_or-take count keys i 0 h) (ap (λ n. drop n (take count keys)) (sym (add-one i)))
-
-  pub key_found : i < count → get_or keys i 0 ≡ key → key_place (drop i (take count keys)) key ≡ 0
-  unfolding key_place
-  key_found h e = ap (λ l. key_place l key) (first_key h) ∙ choice-true (eq-eqb (get_or keys i 0) key e) _ _
-
-  pub key_passed : i < count → (get_or keys i 0 ≡ key → ⊥)
-      → key_place (drop i (take count keys)) key ≡ suc (key_place (drop (i + 1) (take count keys)) key)
-  unfolding key_place
-  key_passed h d = ap (λ l. key_place l key) (first_key h) ∙ choice-false (ne_eqb (get_or keys i 0) key d) _ _
-
-  pub key_ended : count ≤ i → key_place (drop i (take count keys)) key ≡ 0
-  unfolding key_place
-  key_ended h = ap (λ l. key_place l key) (drop_of_length-le (take count keys) {i = i} (rw (length-take-le count keys fits) h))
-
--- ---- a line of names as it becomes known
-
-pub record Knowing (names keys : List ℕ) (at count : ℕ) : Type 0 where
-  pub fits : at ≤ length names
-  pub most : count ≤ at
-  pub all : count + length (words_of (drop at names)) ≡ length (words_of names)
-  pub left : words_of (drop at names) ≡ drop count (words_of names)
-  pub keyed : count ≤ length keys → take count keys ≡ map key_of (take count (words_of names))
+-- ---- the keys of the first names, one more a turn
 
 -- one of some names is a name
-every_at : (words : List Word) (i : ℕ) → i < length words → every is_name words ≡ true → is_name (get_or words i []) ≡ true
+every_at : (names : List Word) (i : ℕ) → i < length names → every is_name names ≡ true → is_name (get_or names i []) ≡ true
 unfolding every
 every_at [] i h e = absurd (omega arith)
-every_at (word ∷ words) zero h e = (and_both (is_name word) (every is_name words) e).0
-every_at (word ∷ words) (suc i) h e = every_at words i (omega arith) (and_both (is_name word) (every is_name words) e).1
+every_at (name ∷ names) zero h e = (and_both (is_name name) (every is_name names) e).0
+every_at (name ∷ names) (suc i) h e = every_at names i (omega arith) (and_both (is_name name) (every is_name names) e).1
 
-module _ (names keys : List ℕ) (at count : ℕ) (so_far : Knowing names keys at count) (from to : ℕ) (word : WordAt names at from to) where
-  pub all_known : from ≡ to → every is_name (words_of names) ≡ true → Known names keys count
-  all_known e h =
-      let n = so_far.all in
-      let none = ap length (words_none names at from to word e) in
-      let c : count ≡ length (words_of names) = omega arith in
-      record {
-        counted = c;
-        are = h;
-        keyed = λ r. so_far.keyed r ∙ ap (map key_of) (take_all count (words_of names) (omega arith));
-      }
+pub record Keyed (names left : List Word) (keys : List ℕ) (i : ℕ) : Type 0 where
+  pub rest : left ≡ drop i names
+  pub keyed : take i keys ≡ map key_of (take i names)
 
-  module _ (some : from ≡ to → ⊥) where
-    one_more : count < length (words_of names)
-    one_more =
-        let n = so_far.all in
-        let w = ap length (words-some names at from to word some) in
-        omega arith
+pub keyed_none : {names left : List Word} {keys : List ℕ} {i : ℕ} → left ≡ names → i ≡ 0 → Keyed names left keys i
+keyed_none e z = record { rest = rw z e; keyed = rw z refl }
 
-    pub next-length : every is_name (words_of names) ≡ true → length (part names from to) ≤ 8
-    next-length h =
-        rw (listed names at from to count word so_far.left one_more).word
-        (name_length (get_or (words_of names) count []) (every_at (words_of names) count one_more h))
+module _ {names left : List Word} {keys : List ℕ} {i : ℕ} (so_far : Keyed names left keys i) where
+  -- no name is left, or no room
+  pub keyed_all : {n : ℕ} → i + n ≡ length keys → (0 < n → left ≡ []) → length names ≤ length keys → take (length names) keys ≡ map key_of names
+  keyed_all {n} e f h =
+      let over : length names ≤ i = by_test (eqb n 0)
+      (λ z. let y = eqb-true n 0 z in omega arith)
+      (λ z. let y = ap length (sym so_far.rest ∙ f (let x = eqb-false n 0 z in omega arith)) in omega (arith, length-drop i names)) in
+      sym (take-take (length names) i keys over) ∙ ap (take (length names)) so_far.keyed
+      ∙ ap (λ l. take (length names) (map key_of l)) (take_all i names over)
+      ∙ take_all (length names) (map key_of names) (omega (arith, length-map names key_of))
 
-    pub knowing_more : (now : List ℕ) → now ≡ set keys count (key_of (part names from to)) → Knowing names now to (count + 1)
-    knowing_more now e =
-        let next = listed names at from to count word so_far.left one_more in
-        let further = next.some in
-        let n = so_far.all in
-        let w = ap length (words-some names at from to word some) in
-        let front-more : take count (words_of names) ++ (get_or (words_of names) count [] ∷ []) ≡ take (count + 1) (words_of names) =
-        rw (add-one count) (sym (take-suc (words_of names) count [] one_more)) in
+  module _ {name : Word} {more : List Word} (e : left ≡ name ∷ more) where
+    within : i < length names
+    within = let y = ap length (sym so_far.rest ∙ e) in omega (arith, length-drop i names)
+
+    parts : name ∷ more ≡ get_or names i [] ∷ drop (suc i) names
+    parts = sym e ∙ so_far.rest ∙ drop-cons names i [] within
+
+    first : name ≡ get_or names i []
+    first = let p = parts in cc
+
+    pub next_length : every is_name names ≡ true → length name ≤ 8
+    next_length h = name_length name (rw first (every_at names i within h))
+
+    pub keyed_more : i < length keys → Keyed names more (set keys i (key_of name)) (i + 1)
+    keyed_more h =
+        let p = parts in
+        let after : more ≡ drop (suc i) names = cc in
         record {
-          fits = word.fits;
-          most = omega arith;
-          all = omega arith;
-          left = next.rest;
-          keyed = λ r.
-              let long = ap length e ∙ length-set keys count (key_of (part names from to)) in
-              ap (take (count + 1)) e
-              ∙ rw (add-one count) (take-suc-set keys count (key_of (part names from to)) (omega arith))
-              ∙ ap₂ (λ l k. l ++ (k ∷ [])) (so_far.keyed (omega arith)) (ap key_of next.word)
-              ∙ sym (map-append key_of (take count (words_of names)) (get_or (words_of names) count [] ∷ []))
-              ∙ ap (map key_of) front-more;
+          rest = rw (add-one i) after;
+          keyed =
+              let append = map-append key_of (take i names) (get_or names i [] ∷ []) in
+              rw (add-one i, take-suc-set keys i (key_of name) h, take-suc names i [] within, append, so_far.keyed, first) refl;
         }
 
-pub knowing_none : (names keys : List ℕ) → Knowing names keys 0 0
-knowing_none names keys = record { fits = omega arith; most = omega arith; all = omega arith; left = refl; keyed = λ r. refl }
-
--- ---- the place by what is known
-
-module _ (names keys : List ℕ) (count : ℕ) (known : Known names keys count) (word : Word) where
-  pub place_key : count ≤ length keys → is_name word ≡ true → key_place (take count keys) (key_of word) ≡ place (words_of names) word
-  place_key h k = ap (λ l. key_place l (key_of word)) (known.keyed h) ∙ key_place_lem (words_of names) word known.are k
-
-  pub place_no_name : is_name word ≡ false → count ≡ place (words_of names) word
-  place_no_name k = known.counted ∙ sym (no_name_place (words_of names) word known.are k)
-
-  -- a word is declared where its place is one of the names'
-  pub among-known : (line : ℕ) → line ≡ place (words_of names) word → (line ≡ count → ⊥) → among word (words_of names) ≡ true
-  among-known line e d = among_placed (words_of names) word (λ z. d (e ∙ z ∙ sym known.counted))
-
-  pub among-unknown : (line : ℕ) → line ≡ place (words_of names) word → line ≡ count → among word (words_of names) ≡ false
-  among-unknown line e z = among_nowhere (words_of names) word (sym e ∙ z ∙ known.counted)
+pub keys_held : (P : Type 0) {Q : Bor (List ℕ) → Type 0} (names : List Word) (keys : Option (Bor (List ℕ))) → MatchOption keys P Q
+    → ((held : Bor (List ℕ)) → Q held → held.now ≡ map key_of names) → AreKeys names keys
+keys_held P names None m f = tt
+keys_held P names (Some held) m f = f held m

@@ -1,72 +1,63 @@
 -- Laws of the token of a gate, one for each outcome of its reading.
-use Prim.Native.Nat.{ℕ, ◌-◌, ◌≤◌}
-use mathlib.Core.Path.{◌≡◌, sym, ap, ◌∙◌}
-use mathlib.Core.Bool.{true, false, ◌&&◌}
-use mathlib.Core.List.{List, ◌∷◌, ◌++◌}
-use native.Mathlib.Omega.{arith}
-use lib.ListN.{length, drop, get_or, length-drop}
-use lib.Seq.{drop-cons, take_all}
-use lib.Dec.{eqb, leb}
-use borrow.Author.Tests.{eq-eqb, ne_eqb, le-leb, lt-leb, leb-true}
-use Rattle.basics.proofs.Tests.{by_test, and_both, choice-true, choice-false}
+use Rattle.std.specs.Prelude.{ℕ, ◌≤◌, ◌≡◌, refl, Bool, true, false, ◌&&◌, Some, None, List, [], ◌∷◌, ◌++◌, length, take, drop, eqb, leb}
+use Rattle.std.specs.Bool.{then_some}
+use Rattle.std.proofs.Common.{sym, ap, ◌∙◌}
+use Rattle.std.proofs.lemmas.Bool.{leb-true, false≢true}
+use Rattle.std.proofs.lemmas.Option.{none-some, same_Some}
+use lib.Pointwise.{pointwise}
+use Rattle.basics.proofs.Tests.{by_test, and-true, and_both, and_left, and_right, choice-true, choice-false}
+use Rattle.basics.specs.Choice.{choice}
 use Rattle.text.specs.Texts.{ascii, same}
 use Rattle.text.specs.Decimal.{decimal}
-use Rattle.text_words.specs.Runs.{part}
 use Rattle.real.specs.Form.{Word}
 use Rattle.real_gates.specs.Tokens.{is_token, token_of}
-use Rattle.real_gates.specs.declared.Token.TheVariants.{Lines, Unread}
+
+-- the letter t (116)
+abbrev pub letter : Word
+letter = 116 ∷ []
+
+same_from : (token number : Word) → pointwise eqb (take 1 token) letter ≡ false → same token (ascii "t" ++ number) ≡ false
+unfolding ascii same
+same_from [] number e = refl
+same_from (b ∷ token) number e = by_test (eqb b 116) (λ t. absurd (false≢true (sym e ∙ and-true t refl))) (λ f. and_left (same token number) f)
+
+same_after : (token number : Word) → pointwise eqb (take 1 token) letter ≡ true → same token (ascii "t" ++ number) ≡ same (drop 1 token) number
+unfolding ascii same
+same_after [] number e = absurd (false≢true e)
+same_after (b ∷ token) number e = ap (λ t. t && same token number) (and_both (eqb b 116) true e).0
+
+then_some_is : {A : Type 0} (b : Bool) (a : A) → then_some b a ≡ choice b (Some a) None
+then_some_is true a = refl
+then_some_is false a = refl
 
 module _ (token : Word) (words : List Word) where
-  is_right : is_token token words ≡ true → Lines (length words) ≡ token_of token words
-  unfolding token_of
-  is_right e = sym (choice-true e _ _)
-
-  is_wrong_lem : is_token token words ≡ false → Unread ≡ token_of token words
-  unfolding token_of
-  is_wrong_lem e = sym (choice-false e _ _)
-
   -- ---- read
 
-  -- no word after it
-  pub token_none : length words ≡ 0 → Unread ≡ token_of token words
-  token_none e = is_wrong_lem (ap (λ b. b && same token (ascii "t" ++ decimal (length words))) (lt-leb 1 (length words) (omega arith)))
+  pub token_other : pointwise eqb (take 1 token) letter ≡ false → None ≡ token_of token words
+  unfolding token_of
+  token_other e = sym (choice-false (and_right (leb 1 (length words)) (same_from token (decimal (length words)) e)) _ _)
 
-  -- words after it: the letter t (116), and what stands after it is their number
-  module _ (more : length words ≡ 0 → ⊥) (some : 1 ≤ length token) where
-    by_letter : is_token token words ≡ eqb (get_or token 0 0) 116 && same (part token 1 (length token)) (decimal (length words))
-    unfolding ascii same
-    by_letter =
-        ap (λ b. b && same token (116 ∷ decimal (length words))) (le-leb 1 (length words) (omega arith))
-        ∙ ap (λ t. same t (116 ∷ decimal (length words))) (drop-cons token 0 0 some)
-        ∙ ap (λ t. eqb (get_or token 0 0) 116 && same t (decimal (length words)))
-        (sym (take_all (length token - 1) (drop 1 token) (omega (arith, length-drop 1 token))))
-
-    pub token_other : (get_or token 0 0 ≡ 116 → ⊥) → Unread ≡ token_of token words
-    token_other d = is_wrong_lem (by_letter
-        ∙ ap (λ b. b && same (part token 1 (length token)) (decimal (length words))) (ne_eqb (get_or token 0 0) 116 d))
-
-    module _ (letter : get_or token 0 0 ≡ 116) where
-      by_number : is_token token words ≡ same (part token 1 (length token)) (decimal (length words))
-      by_number = by_letter ∙ ap (λ b. b && same (part token 1 (length token)) (decimal (length words))) (eq-eqb (get_or token 0 0) 116 letter)
-
-      pub token_right : same (part token 1 (length token)) (decimal (length words)) ≡ true → Lines (length words) ≡ token_of token words
-      token_right e = is_right (by_number ∙ e)
-
-      pub token_wrong : same (part token 1 (length token)) (decimal (length words)) ≡ false → Unread ≡ token_of token words
-      token_wrong e = is_wrong_lem (by_number ∙ e)
+  pub token_told : (number : Word) → pointwise eqb (take 1 token) letter ≡ true → number ≡ drop 1 token → (told : Bool)
+      → told ≡ (leb 1 (length words) && same number (decimal (length words))) → then_some told (length words) ≡ token_of token words
+  unfolding token_of
+  token_told number e n told t =
+      let is : told ≡ is_token token words =
+      t ∙ ap (λ u. leb 1 (length words) && same u (decimal (length words))) n
+      ∙ ap (λ b. leb 1 (length words) && b) (sym (same_after token (decimal (length words)) e)) in
+      rw is (then_some_is (is_token token words) (length words))
 
   -- ---- told
 
-  pub token_lines : (count : ℕ) → Lines count ≡ token_of token words → (is_token token words ≡ true) × (count ≡ length words)
+  pub token_lines : (count : ℕ) → Some count ≡ token_of token words → (is_token token words ≡ true) × (count ≡ length words)
   unfolding token_of
   token_lines count e = by_test (is_token token words)
-      (λ t. (t, let z : Lines count ≡ Lines (length words) = e ∙ choice-true t _ _ in cc))
-      (λ t. let z : Lines count ≡ Unread = e ∙ choice-false t _ _ in let y : ◌≡◌ {A = ℕ} 0 1 = cc in absurd (omega arith))
+      (λ t. (t, same_Some count (length words) (e ∙ choice-true t _ _)))
+      (λ t. absurd (none-some count (sym (e ∙ choice-false t _ _))))
 
-  pub token_unread : Unread ≡ token_of token words → is_token token words ≡ false
+  pub token_unread : None ≡ token_of token words → is_token token words ≡ false
   unfolding token_of
   token_unread e = by_test (is_token token words)
-      (λ t. let z : Unread ≡ Lines (length words) = e ∙ choice-true t _ _ in let y : ◌≡◌ {A = ℕ} 0 1 = cc in absurd (omega arith))
+      (λ t. absurd (none-some (length words) (e ∙ choice-true t _ _)))
       (λ t. t)
 
   pub token_least : is_token token words ≡ true → 1 ≤ length words

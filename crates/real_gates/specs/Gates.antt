@@ -1,34 +1,34 @@
 -- What the reading of a gate's words tells.
-use Rattle.std.specs.Prelude.{ℕ, ◌≤◌, ◌≡◌, Bool, true, false, ◌&&◌, List, [], ◌∷◌, length, take, drop}
+use Rattle.std.specs.Prelude.{ℕ, ◌≤◌, ◌≡◌, Bool, true, false, ◌&&◌, Option, MatchOption, List, [], ◌∷◌, length, take, drop}
+use Rattle.std.specs.Borrow.{Bor}
 use Rattle.text.specs.Texts.{every, among, distinct}
 use Rattle.text_words.specs.Words.{words_of}
 use Rattle.real.specs.Form.{Word, controls_of, mask_of, gate_of}
-use Rattle.real_gates.specs.declared.Controls.{Controls}
-use Rattle.real_gates.specs.declared.Controls.TheVariants as controls
-use Rattle.real_gates.specs.declared.Read.{Read}
-use Rattle.real_gates.specs.declared.Read.TheVariants as read
+use Rattle.real_gates.specs.declared.Gate.{Gate}
 
 -- each is declared, and none stands twice
 abbrev pub are_controls : List Word → List Word → Bool
 are_controls names words = every (λ w. among w names) words && distinct words
 
--- the first words of a line, so many, as controls: their mask, and where the words after them start
-pub record Masked (names : List Word) (rest : List ℕ) (wanted mask at : ℕ) : Type 0 where
-  pub fits : at ≤ length rest
-  pub left : words_of (drop at rest) ≡ drop wanted (words_of rest)
-  pub right : are_controls names (take wanted (words_of rest)) ≡ true
-  pub is : mask ≡ mask_of names (take wanted (words_of rest))
-
-abbrev pub ControlsRead : List Word → List ℕ → ℕ → Controls → Type 0
-ControlsRead names rest wanted (controls.Mask mask at) = Masked names rest wanted mask at
-ControlsRead names rest wanted controls.Unread = are_controls names (take wanted (words_of rest)) ≡ false
+-- the first of some words, so many, as controls: their mask, and the words after them
+pub record Masked (names words : List Word) (wanted mask : ℕ) (left : List Word) : Type 0 where
+  pub rest : left ≡ drop wanted words
+  pub right : are_controls names (take wanted words) ≡ true
+  pub is : mask ≡ mask_of names (take wanted words)
 
 -- the words of a gate after its token: each is declared, no control stands twice
 abbrev pub are_gate : List Word → List Word → Bool
 are_gate names words = every (λ w. among w names) words && distinct (controls_of words)
 
--- of a circuit with more than 32 lines no gate is told
-abbrev pub GateRead : List Word → List Word → Read → Type 0
-GateRead names words (read.Gate controls target) =
-    (are_gate names words ≡ true) × (length names ≤ 32 → gate_of names words ≡ controls ∷ 0 ∷ target ∷ [])
-GateRead names words read.Unread = are_gate names words ≡ false
+-- a gate is told by its words; of a circuit with more than 32 lines it is not
+pub record IsGate (names words : List Word) (gate : Gate) : Type 0 where
+  pub right : are_gate names words ≡ true
+  pub is : length names ≤ 32 → gate_of names words ≡ gate.controls ∷ 0 ∷ gate.target ∷ []
+
+abbrev pub GateRead : List Word → List Word → Option Gate → Type 0
+GateRead names words read = MatchOption read (are_gate names words ≡ false) (IsGate names words)
+
+-- some words read as controls: their mask, with what stands after them
+abbrev pub ControlsRead : List Word → List Word → ℕ → Option (ℕ × Bor (List ℕ)) → Type 0
+ControlsRead names words wanted read =
+    MatchOption read (are_controls names (take wanted words) ≡ false) (λ found. Masked names words wanted found.0 (words_of found.1.now))

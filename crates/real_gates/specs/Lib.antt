@@ -1,3 +1,4 @@
 pub mod Tokens
 pub mod Keys
+pub mod Names
 pub mod Gates

@@ -1,82 +1,66 @@
 // Names as numbers, so that a word is looked up without walking the line of names: a name has at most eight bytes.
-ghost use Rattle.std.specs.Prelude.{◌≡◌, true, ◌≤◌, length, take, set};
-ghost use Rattle.text.specs.Texts.{every, place};
+ghost use Rattle.std.specs.Prelude.{◌≡◌, true, ◌≤◌, length, is_some};
+ghost use Rattle.text.specs.Texts.{every};
 ghost use Rattle.text_words.specs.Words.{words_of};
 ghost use Rattle.real.specs.Form.{is_name};
-ghost use Rattle.real_gates.specs.Keys.{key_of, key_place, Known};
+ghost use Rattle.real_gates.specs.Keys.{key_of, Known, Known-prop};
 
 use real::spelling;
-use text_words::{runs, same};
+use text_words::runs::{self, Words};
+use text_words::same;
+
+// The names of a circuit as they stand on their line: how many there are, and the key of each where there was room for all.
+#[derive(Clone, Copy)]
+pub struct Names<'a, 'room> {
+    pub line: &'a [u8],
+    pub count: usize,
+    keys: Option<&'room [u64]>,
+    pub ghost known: { Known line.now count keys } by { Known-prop line.now count keys },
+}
 
 // The key of a word of at most eight bytes.
 fn key(word: &[u8]) -> u64
     requires { length word.now ≤ 8 }
     ensures { result ≡ key_of word.now }
 {
-    let mut key = 0u64;
-    let mut i = word.len();
-    while 0 < i {
-        i -= 1;
-        key = key * 256 + word[i] as u64;
-    }
-    key
+    let mut bytes = [0; 8];
+    bytes[..word.len()].copy_from_slice(word);
+    u64::from_le_bytes(bytes)
 }
 
-// Stores the key of a name at a place, if there is one.
-fn put_key(keys: &mut [u64], i: usize, name: &[u8])
-    requires { length name.now ≤ 8 }
-    ensures { keys.new ≡ set keys.old i (key_of name.now) }
-{
-    if i < keys.len() {
-        keys[i] = key(name);
-    }
-}
+impl<'a, 'room> Names<'a, 'room> {
+    ghost use Rattle.text_words.specs.Runs.{IsPlace};
+    ghost use Rattle.real_gates.specs.Names.{names_in};
 
-// Stores the keys of a line's names, and answers how many names there are.
-pub fn remember(names: &[u8], keys: &mut [u64]) -> usize
-    requires { every is_name (words_of names.now) ≡ true }
-    ensures { Known names.now keys.new result }
-{
-    let mut at = 0;
-    let mut known = 0;
-    loop {
-        let span = runs::next_word(names, at);
-        let from = span.from;
-        let to = span.to;
-        if from == to {
-            return known;
+    // The names of a line, with their keys in the room that is lent: all of them, where there is room for all.
+    pub fn remember(line: &'a [u8], room: &'room mut [u64]) -> Names<'a, 'room>
+        requires { every is_name (words_of line.now) ≡ true }
+        ensures names { names_in result ≡ words_of line.now }
+        ensures keyed { length (words_of line.now) ≤ length room.old → is_some result.keys ≡ true }
+    {
+        let count = runs::count_words(line);
+        for (i, name) in Words::of(line).enumerate().take(room.len()) {
+            room[i] = key(name);
         }
-        put_key(keys, known, &names[from..to]);
-        known += 1;
-        at = to;
-    }
-}
-
-// How many of the first keys, so many, stand before the first that is equal.
-fn find(keys: &[u64], count: usize, key: u64) -> usize
-    requires { count ≤ length keys.now }
-    ensures { result ≡ key_place (take count keys.now) key }
-{
-    let mut i = 0;
-    while i < count {
-        if keys[i] == key {
-            return i;
+        Names {
+            line,
+            count,
+            keys: room.get(..count),
         }
-        i += 1;
     }
-    count
-}
 
-// How many names stand before a word; all of them where it is none of them.
-pub fn place(names: &[u8], keys: &[u64], count: usize, word: &[u8]) -> usize
-    requires { Known names.now keys.now count }
-    ensures { result ≡ place (words_of names.now) word.now }
-{
-    if keys.len() < count {
-        return same::place(names, word);
+    // How many names stand before a word, if it is one of them.
+    #[tactic(auto, using(crate::proofs::KeyLaws::no_name_place, crate::proofs::KeyLaws::name_length))]
+    pub fn place(&self, word: &[u8]) -> Option<usize>
+        ensures { IsPlace (names_in self.now) word.now result }
+    {
+        let Some(keys) = self.keys else {
+            return same::place(self.line, word);
+        };
+        if !spelling::is_name(word) {
+            return None;
+        }
+        let wanted = key(word);
+        keys.iter().position(|key| *key == wanted)
     }
-    if !spelling::is_name(word) {
-        return count;
-    }
-    find(keys, count, key(word))
 }

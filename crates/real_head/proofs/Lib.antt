@@ -1,3 +1,2 @@
-pub mod TurnLaws
 pub mod PartLaws
 pub mod LineLaws

@@ -1,78 +1,60 @@
--- What the code's stages mean: each is a stage of the form, told by places of the text.
-use Rattle.std.specs.Prelude.{ℕ, ◌+◌, ◌≤◌, ◌≡◌, Bool, true, false, List, [], ◌∷◌, length, drop}
-use Rattle.text.specs.Texts.{ascii, every}
+-- What the code's stages mean: each is a stage of the form, with the words of what was read.
+use Rattle.std.specs.Prelude.{ℕ, ◌+◌, ◌≤◌, ◌≡◌, Bool, true, false, ◌&&◌, Option, Some, None, Result, Ok, Err, List, [], ◌∷◌, length}
+use Rattle.text.specs.Texts.{ascii, every, same, distinct}
+use Rattle.text.specs.Decimal.{decimal}
 use Rattle.text_words.specs.Words.{lines_of, words_of}
-use Rattle.text_words.specs.Runs.{part}
 use Rattle.real.specs.Form.{Word, Stage, Step, is_name}
 use Rattle.real.specs.Form.Stage.{start, versioned, counted, named, begun}
 use Rattle.real.specs.Form.Step.{goes, stops}
 use Rattle.real.specs.Reading.{reading, read_from}
 use Rattle.real.specs.Reading.Reading.{faulty}
+use Rattle.real_head.specs.declared.Parts.{Parts}
 use Rattle.real_head.specs.declared.Due.{Due}
 use Rattle.real_head.specs.declared.Due.TheVariants as due
 use Rattle.real_head.specs.declared.Turn.{Turn}
 use Rattle.real_head.specs.declared.Turn.TheVariants as turn
+use Rattle.real_head.specs.declared.FaultyLine.{FaultyLine}
 use Rattle.real_head.specs.declared.Head.{Head}
-use Rattle.real_head.specs.declared.Head.TheVariants as head
-
--- the names that stand between two places
-abbrev pub names_in : List ℕ → ℕ → ℕ → List Word
-names_in text from to = words_of (part text from to)
 
 abbrev pub picked : Bool → Word → List Word → List Word
 picked true w rest = w ∷ rest
 picked false w rest = rest
 
 -- the optional parts that may come
-unfoldable pub parts_in : Bool → Bool → Bool → Bool → List Word
-parts_in i o g k = picked i (ascii ".inputs") (picked o (ascii ".outputs") (picked g (ascii ".garbage") (picked k (ascii ".constants") [])))
+unfoldable pub parts_in : Parts → List Word
+parts_in p =
+    picked p.inputs (ascii ".inputs")
+    (picked p.outputs (ascii ".outputs")
+    (picked p.garbage (ascii ".garbage")
+    (picked p.constants (ascii ".constants") [])))
 
-abbrev pub stage_of : List ℕ → Due → Stage
-stage_of text due.Version = start
-stage_of text due.Numvars = versioned
-stage_of text (due.Variables from to) = counted (part text from to)
-stage_of text (due.Part from to i o g k) = named (names_in text from to) (parts_in i o g k)
+abbrev pub stage_of : Due → Stage
+stage_of due.Version = start
+stage_of due.Numvars = versioned
+stage_of (due.Variables number) = counted number.now
+stage_of (due.Part names parts) = named (words_of names.line.now) (parts_in parts)
 
-abbrev pub turn_of : List ℕ → Turn → Step
-turn_of text (turn.Goes d) = goes (stage_of text d)
-turn_of text (turn.Begins from to) = goes (begun (names_in text from to))
-turn_of text (turn.Stops number) = stops number
+-- what a turn is a step to; none is a line that is not of the form
+abbrev pub turn_step : Option Turn → Step
+turn_step None = stops 14
+turn_step (Some (turn.Goes d)) = goes (stage_of d)
+turn_step (Some (turn.Begins names)) = goes (begun (words_of names.line.now))
 
--- names stand between two places of the text
-pub record Names (text : List ℕ) (from to : ℕ) : Type 0 where
-  pub order : from ≤ to
-  pub fits : to ≤ length text
-  pub are : every is_name (names_in text from to) ≡ true
+-- the same where only parts are told, of these names
+abbrev pub parts_step : List Word → Option Parts → Step
+parts_step names None = stops 14
+parts_step names (Some parts) = goes (named names (parts_in parts))
 
--- the places lie in the text
-abbrev pub InText : List ℕ → Due → Type 0
-InText text due.Version = Unit {0}
-InText text due.Numvars = Unit {0}
-InText text (due.Variables from to) = (from ≤ to) × (to ≤ length text)
-InText text (due.Part from to i o g k) = Names text from to
+-- .variables, and as many names as the number says, none twice
+abbrev pub is_variables : Word → Word → List Word → Bool
+is_variables number word more = same word (ascii ".variables") && (every is_name more && (distinct more && same number (decimal (length more))))
 
-abbrev pub InTurn : List ℕ → Turn → Type 0
-InTurn text (turn.Goes d) = InText text d
-InTurn text (turn.Begins from to) = Names text from to
-InTurn text (turn.Stops number) = Unit {0}
+-- the head ends with .begin: its names, and what is left of the text, with the number of the first line of it
+pub record Begins (text : List ℕ) (head : Head) : Type 0 where
+  pub counted : head.line + length head.rest.now ≤ length text + 1
+  pub read : reading text ≡ read_from head.line (begun (words_of head.names.line.now)) (lines_of head.rest.now)
 
--- a line is read as a step of the form says
-pub record Turned (text : List ℕ) (step : Step) (t : Turn) : Type 0 where
-  pub is : turn_of text t ≡ step
-  pub within : InTurn text t
-
--- a slice is the text from a place on
-pub record StandsAt (text rest : List ℕ) (at : ℕ) : Type 0 where
-  pub fits : at + length rest ≤ length text
-  pub same : rest ≡ part text at (at + length rest)
-
--- the head ends with .begin: the names, and where the next line starts, with its number
-pub record Begins (text : List ℕ) (from to at line : ℕ) : Type 0 where
-  pub names : Names text from to
-  pub within : at ≤ length text
-  pub counted : line ≤ at + 1
-  pub read : reading text ≡ read_from line (begun (names_in text from to)) (lines_of (drop at text))
-
-abbrev pub HeadRead : List ℕ → Head → Type 0
-HeadRead text (head.Begun from to at line) = Begins text from to at line
-HeadRead text (head.Faulty number line) = reading text ≡ faulty number line
+-- or a line is faulty: the first one, by rule 14
+abbrev pub HeadRead : List ℕ → Result Head FaultyLine → Type 0
+HeadRead text (Ok head) = Begins text head
+HeadRead text (Err fault) = reading text ≡ faulty 14 fault.line

@@ -1,276 +1,220 @@
-// The head of a text, up to .begin, line by line. Nothing is stored: what was read is told by places of the text.
+// The head of a text, up to .begin, line by line. Nothing is stored: what was read is told by slices of the text.
 #![tactic(auto)]
 
-ghost use Rattle.std.specs.Prelude.{◌≡◌, ◌&&◌, false, ◌≤◌, length, eqb};
-ghost use Rattle.basics.specs.Choice.{choice};
+ghost use Rattle.std.specs.Prelude.{◌≡◌, ◌&&◌, length, eqb, false};
+ghost use Rattle.refusals.specs.Places.{in_word};
+ghost use Rattle.refusals.specs.declared.Refusal.TheVariants.{Text};
 ghost use Rattle.text.specs.Texts.{ascii, same};
 ghost use Rattle.text_words.specs.Words.{words_of};
-ghost use Rattle.text_words.specs.Runs.{part};
 ghost use Rattle.real.specs.Form.{is_constants, next, step_of};
 ghost use Rattle.real.specs.Form.Stage.{versioned, counted, named};
-ghost use Rattle.real_head.specs.declared.Due.TheVariants.{Part};
-ghost use Rattle.real_head.specs.declared.Turn.TheVariants.{Goes, Stops};
-ghost use Rattle.real_head.specs.Stages.{Names, stage_of, parts_in, names_in, InText, Turned, StandsAt, HeadRead};
+ghost use Rattle.real_head.specs.Stages.{parts_in, stage_of, parts_step, turn_step, is_variables, HeadRead};
 
+use crate::names::NameLine;
 use real::spelling;
+use refusals::{Refusal, in_word};
 use text_words::{runs, same};
 
-// Which line is due, and where what was read stands: the number; the names, with the parts that may come.
+pub mod names;
+
+// The optional parts that may still come.
 #[derive(Clone, Copy)]
-pub enum Due {
+pub struct Parts {
+    pub inputs: bool,
+    pub outputs: bool,
+    pub garbage: bool,
+    pub constants: bool,
+}
+
+// Which line is due, and what was read so far.
+#[derive(Clone, Copy)]
+pub enum Due<'a> {
     Version,
     Numvars,
-    Variables {
-        from: usize,
-        to: usize,
-    },
-    Part {
-        from: usize,
-        to: usize,
-        inputs: bool,
-        outputs: bool,
-        garbage: bool,
-        constants: bool,
-    },
+    Variables { number: &'a [u8] },
+    Part { names: NameLine<'a>, parts: Parts },
 }
 
-// A line leads on, ends the head, or is refused by a number.
+// A line that is of the form leads on, or it is .begin and ends the head.
 #[derive(Clone, Copy)]
-pub enum Turn {
-    Goes(Due),
-    Begins { from: usize, to: usize },
-    Stops(u32),
+pub enum Turn<'a> {
+    Goes(Due<'a>),
+    Begins(NameLine<'a>),
 }
 
-// The head: where its names stand, and where the line after .begin starts, with its number; or the first faulty line.
+// The head: its names, and what follows .begin, with the number of its first line.
 #[derive(Clone, Copy)]
-pub enum Head {
-    Begun {
-        from: usize,
-        to: usize,
-        at: usize,
-        line: usize,
-    },
-    Faulty {
-        number: u32,
-        line: usize,
-    },
+pub struct Head<'a> {
+    pub names: NameLine<'a>,
+    pub rest: &'a [u8],
+    pub line: usize,
 }
 
-// A line leads on where a test passes, and else it is not of the form.
-fn when(test: bool, due: Due) -> Turn
-    ensures { result ≡ choice test (Goes due) (Stops 14) }
-{
-    if test {
-        Turn::Goes(due)
-    } else {
-        Turn::Stops(14)
+// The number of the first line that is not of the form; after the last line .begin may be missing.
+#[derive(Clone, Copy, PartialEq, Eq)]
+pub struct FaultyLine {
+    pub line: usize,
+}
+
+impl From<FaultyLine> for Refusal {
+    ghost from_gives = { λ fault refusal. refusal ≡ Text (in_word fault.line) };
+
+    fn from(fault: FaultyLine) -> Refusal {
+        Refusal::Text(in_word(fault.line))
     }
 }
 
-// The same where an optional part is read: the names from one place to the other, and the parts that may still come.
-fn part_when(
-    test: bool,
-    from: usize,
-    to: usize,
-    inputs: bool,
-    outputs: bool,
-    garbage: bool,
-    constants: bool,
-) -> Turn
-    ensures { result ≡ choice test (Goes (Part from to inputs outputs garbage constants)) (Stops 14) }
+// .numvars and one number.
+#[tactic(auto, using(text::proofs::SameLaws::same_is_pointwise), unfolding(text::specs::Texts::ascii, real::specs::Form::next))]
+fn numvars<'a>(word: &[u8], rest: &'a [u8]) -> Option<Turn<'a>>
+    ensures { turn_step result ≡ next versioned word.now (words_of rest.now) }
 {
-    when(
-        test,
-        Due::Part {
-            from,
-            to,
-            inputs,
-            outputs,
-            garbage,
-            constants,
-        },
-    )
+    if word != b".numvars".as_slice() {
+        return None;
+    }
+    let number = runs::only_word(rest)?;
+    if !same::is_number(number) {
+        return None;
+    }
+    Some(Turn::Goes(Due::Variables { number }))
 }
 
-// .numvars and one number; `at` is the place of what follows the word.
-fn numvars(text: &[u8], word: &[u8], rest: &[u8], at: usize) -> Turn
-    requires { StandsAt text.now rest.now at }
-    ensures { Turned text.now (next versioned word.now (words_of rest.now)) result }
+// Whether a line is .variables and as many names as the number says.
+#[tactic(auto, using(text::proofs::SameLaws::same_is_pointwise, std::proofs::lemmas::List::take_all), unfolding(text::specs::Texts::ascii))]
+fn is_variables(number: &[u8], word: &[u8], rest: &[u8]) -> bool
+    ensures { result ≡ is_variables number.now word.now (words_of rest.now) }
 {
-    if !same::same(word, b".numvars") {
-        return Turn::Stops(14);
-    }
-    if runs::count_words(rest) != 1 {
-        return Turn::Stops(14);
-    }
-    let span = runs::next_word(rest, 0);
-    let from = span.from;
-    let to = span.to;
-    if !same::is_number(&rest[from..to]) {
-        return Turn::Stops(14);
-    }
-    Turn::Goes(Due::Variables {
-        from: at + from,
-        to: at + to,
-    })
-}
-
-// .variables and as many names as the number says.
-fn variables(text: &[u8], number: &[u8], word: &[u8], rest: &[u8], at: usize) -> Turn
-    requires { StandsAt text.now rest.now at }
-    ensures { Turned text.now (next (counted number.now) word.now (words_of rest.now)) result }
-{
-    if !same::same(word, b".variables") {
-        return Turn::Stops(14);
-    }
-    if !spelling::all_names(rest) {
-        return Turn::Stops(14);
-    }
     let count = runs::count_words(rest);
-    if !same::distinct(rest, count) {
-        return Turn::Stops(14);
+    word == b".variables".as_slice()
+        && spelling::all_names(rest)
+        && same::distinct(rest, count)
+        && same::is_decimal(number, count)
+}
+
+// .variables and its names: any optional part may come.
+#[tactic(auto, unfolding(real::specs::Form::next, real::specs::Form::optional_parts, crate::specs::Stages::parts_in))]
+fn variables<'a>(number: &[u8], word: &[u8], rest: &'a [u8]) -> Option<Turn<'a>>
+    ensures { turn_step result ≡ next (counted number.now) word.now (words_of rest.now) }
+{
+    if !is_variables(number, word, rest) {
+        return None;
     }
-    if !same::is_decimal(number, count) {
-        return Turn::Stops(14);
-    }
-    Turn::Goes(Due::Part {
-        from: at,
-        to: at + rest.len(),
-        inputs: true,
-        outputs: true,
-        garbage: true,
-        constants: true,
-    })
+    Some(Turn::Goes(Due::Part {
+        names: NameLine { line: rest },
+        parts: Parts {
+            inputs: true,
+            outputs: true,
+            garbage: true,
+            constants: true,
+        },
+    }))
 }
 
 // Whether what follows .constants is one word of a hyphen for each name.
+#[tactic(auto, unfolding(real::specs::Form::is_constants))]
 fn is_constants(names: &[u8], rest: &[u8]) -> bool
     ensures { result ≡ is_constants (length (words_of names.now)) (words_of rest.now) }
 {
-    if runs::count_words(rest) != 1 {
-        return false;
-    }
-    let span = runs::next_word(rest, 0);
-    let from = span.from;
-    let to = span.to;
-    spelling::all_hyphens(&rest[from..to], runs::count_words(names))
+    runs::only_word(rest).is_some_and(|word| spelling::all_hyphens(word, runs::count_words(names)))
 }
 
-// An optional part that may come, with the names from one place to the other.
-fn optional(
-    text: &[u8],
-    from: usize,
-    to: usize,
-    inputs: bool,
-    outputs: bool,
-    garbage: bool,
-    constants: bool,
-    word: &[u8],
-    rest: &[u8],
-) -> Turn
-    requires { Names text.now from to × ((same word.now (ascii ".begin") && eqb (length (words_of rest.now)) 0) ≡ false) }
-    ensures { Turned
-        text.now
-        (next (named (names_in text.now from to) (parts_in inputs outputs garbage constants)) word.now (words_of rest.now))
-        result }
+// The parts that may come after an optional part.
+fn parts_after(parts: Parts, names: &[u8], word: &[u8], rest: &[u8]) -> Option<Parts>
+    requires { (same word.now (ascii ".begin") && eqb (length (words_of rest.now)) 0) ≡ false }
+    ensures { parts_step (words_of names.now) result ≡ next (named (words_of names.now) (parts_in parts)) word.now (words_of rest.now) }
 {
-    if same::same(word, b".inputs") {
-        return part_when(inputs, from, to, false, outputs, garbage, constants);
+    if word == b".inputs".as_slice() {
+        return parts.inputs.then_some(Parts {
+            inputs: false,
+            ..parts
+        });
     }
-    if same::same(word, b".outputs") {
-        return part_when(outputs, from, to, inputs, false, garbage, constants);
+    if word == b".outputs".as_slice() {
+        return parts.outputs.then_some(Parts {
+            outputs: false,
+            ..parts
+        });
     }
-    if same::same(word, b".garbage") {
-        return part_when(garbage, from, to, inputs, outputs, false, constants);
+    if word == b".garbage".as_slice() {
+        return parts.garbage.then_some(Parts {
+            garbage: false,
+            ..parts
+        });
     }
-    if !same::same(word, b".constants") {
-        return Turn::Stops(14);
+    if word == b".constants".as_slice() && is_constants(names, rest) {
+        return parts.constants.then_some(Parts {
+            constants: false,
+            ..parts
+        });
     }
-    if !is_constants(&text[from..to], rest) {
-        return Turn::Stops(14);
-    }
-    part_when(constants, from, to, inputs, outputs, garbage, false)
+    None
 }
 
-// A line of a first word and more; `at` is the place after the word.
-fn due_turn(text: &[u8], due: Due, word: &[u8], rest: &[u8], at: usize) -> Turn
-    requires { StandsAt text.now rest.now at × InText text.now due }
-    ensures { Turned text.now (next (stage_of text.now due) word.now (words_of rest.now)) result }
+// .begin, or an optional part.
+#[tactic(auto, unfolding(text::specs::Texts::ascii, real::specs::Form::next))]
+fn part<'a>(names: NameLine<'a>, parts: Parts, word: &[u8], rest: &[u8]) -> Option<Turn<'a>>
+    ensures { turn_step result ≡ next (named (words_of names.entry.line.now) (parts_in parts)) word.now (words_of rest.now) }
+{
+    if spelling::alone(word, rest, b".begin") {
+        return Some(Turn::Begins(names));
+    }
+    let parts = parts_after(parts, names.line, word, rest)?;
+    Some(Turn::Goes(Due::Part { names, parts }))
+}
+
+// A line of a first word and more.
+#[tactic(auto, using(text::proofs::SameLaws::same_is_pointwise), unfolding(text::specs::Texts::ascii, real::specs::Form::next))]
+fn due_turn<'a>(due: Due<'a>, word: &[u8], rest: &'a [u8]) -> Option<Turn<'a>>
+    ensures { turn_step result ≡ next (stage_of due.entry) word.now (words_of rest.now) }
 {
     match due {
-        Due::Version => when(same::same(word, b".version"), Due::Numvars),
-        Due::Numvars => numvars(text, word, rest, at),
-        Due::Variables { from, to } => variables(text, &text[from..to], word, rest, at),
-        Due::Part {
-            from,
-            to,
-            inputs,
-            outputs,
-            garbage,
-            constants,
-        } => {
-            if spelling::alone(word, rest, b".begin") {
-                return Turn::Begins { from, to };
-            }
-            optional(
-                text, from, to, inputs, outputs, garbage, constants, word, rest,
-            )
-        }
+        Due::Version => (word == b".version".as_slice()).then_some(Turn::Goes(Due::Numvars)),
+        Due::Numvars => numvars(word, rest),
+        Due::Variables { number } => variables(number, word, rest),
+        Due::Part { names, parts } => part(names, parts, word, rest),
     }
 }
 
-// The line that stands from `at` to `to`.
-fn line_turn(text: &[u8], due: Due, at: usize, to: usize) -> Turn
-    requires { (at ≤ to) × (to ≤ length text.now) × InText text.now due }
-    ensures { Turned text.now (step_of (stage_of text.now due) (part text.now at to)) result }
+// One line.
+#[tactic(auto, using(crate::proofs::LineLaws::head_due, crate::proofs::LineLaws::first_byte), unfolding(real::specs::Form::step_of, real::specs::Form::step_with))]
+fn line_turn<'a>(due: Due<'a>, line: &'a [u8]) -> Option<Turn<'a>>
+    ensures { turn_step result ≡ step_of (stage_of due.entry) line.now }
 {
-    let line = &text[at..to];
-    let span = runs::next_word(line, 0);
-    let start = span.from;
-    let end = span.to;
-    if start == end {
-        return Turn::Goes(due);
-    }
-    if line[start] == b'#' {
-        return Turn::Goes(due);
+    let Some((word, rest)) = runs::next_word(line) else {
+        return Some(Turn::Goes(due));
+    };
+    if word.starts_with(b"#") {
+        return Some(Turn::Goes(due));
     }
     if !spelling::all_plain(line) {
-        return Turn::Stops(14);
+        return None;
     }
-    due_turn(text, due, &line[start..end], &line[end..], at + end)
+    due_turn(due, word, rest)
 }
 
 // The lines up to .begin.
-pub fn read_head(text: &[u8]) -> Head
+pub fn read_head(text: &[u8]) -> Result<Head<'_>, FaultyLine>
     ensures { HeadRead text.now result }
 {
-    let mut at = 0;
+    let mut left = text;
     let mut line = 1;
     let mut due = Due::Version;
-    while at < text.len() {
-        let span = runs::next_line(text, at);
-        let to = span.to;
-        let next = span.next;
-        match line_turn(text, due, at, to) {
-            Turn::Stops(number) => return Head::Faulty { number, line },
-            Turn::Begins {
-                from: start,
-                to: end,
-            } => {
-                return Head::Begun {
-                    from: start,
-                    to: end,
-                    at: next,
+    while let Some((here, rest)) = runs::next_line(left) {
+        match line_turn(due, here) {
+            None => return Err(FaultyLine { line }),
+            Some(Turn::Begins(names)) => {
+                return Ok(Head {
+                    names,
+                    rest,
                     line: line + 1,
-                };
+                });
             }
-            Turn::Goes(then) => {
+            Some(Turn::Goes(then)) => {
                 due = then;
             }
         }
-        at = next;
+        left = rest;
         line += 1;
     }
-    Head::Faulty { number: 14, line }
+    Err(FaultyLine { line })
 }

@@ -1,13 +1,13 @@
 -- Laws of the lines after .begin: what one leads to, and what is read of them all.
-use Prim.Native.Nat.{ℕ, ◌+◌, ◌≤◌}
-use mathlib.Core.Path.{◌≡◌, refl, sym, ap, ◌∙◌}
-use mathlib.Core.List.{List, [], ◌∷◌, ◌++◌, append-nil, append_assoc}
-use native.Mathlib.Omega.{arith}
-use native.Mathlib.Numerals.{add-one}
-use lib.ListN.{length, drop, drop_of_length-le}
+use Rattle.std.proofs.Common.{ℕ, ◌+◌, ◌≤◌, ◌≡◌, refl, sym, ap, ◌∙◌, Result, Err, List, [], ◌∷◌, ◌++◌, length, add-one, append_assoc, arith}
+use Rattle.std.proofs.lemmas.List.{append-nil}
 use Rattle.circuit.specs.Limits.{most_lines}
+use Rattle.refusals.specs.Answers.{number_of, place_of}
+use Rattle.refusals.specs.Places.{in_word}
+use Rattle.refusals.specs.declared.Refusal.{Refusal}
+use Rattle.refusals.specs.declared.Refusal.TheVariants.{Text}
 use Rattle.text_words.specs.Words.{lines_of}
-use Rattle.text_words.specs.Runs.{part, LineAt}
+use Rattle.text_words.specs.Runs.{IsFirstLine}
 use Rattle.real.specs.Form.{Word, Stage, step_of}
 use Rattle.real.specs.Form.Stage.{begun}
 use Rattle.real.specs.Form.Step.{goes, adds, stops}
@@ -15,7 +15,8 @@ use Rattle.real.specs.Reading.{Reading, with_gate, onward, at_end, read_from}
 use Rattle.real.specs.Reading.Reading.{circuit, faulty}
 use Rattle.real_import.specs.declared.lines.Due.{Due}
 use Rattle.real_import.specs.declared.lines.Due.TheVariants.{Gate, Nothing}
-use Rattle.real_import.specs.Lines.{stage_of, gates_so_far, held_after, Held, Leads, Formed}
+use Rattle.real_import.specs.declared.lines.Form.{Form}
+use Rattle.real_import.specs.Lines.{stage_of, gates_so_far, held_after, Held, Leads, Formed, Tells, FormRead}
 use Rattle.real_import.proofs.HoldLaws.{held_none, held_more}
 
 -- ---- words of gates put in front
@@ -52,65 +53,74 @@ module _ (names : List Word) (line own : List ℕ) where
 
 -- ---- all lines
 
--- the lines up to a place are read, and their gates are held
-pub record Reads (names : List Word) (text : List ℕ) (first line at here : ℕ) (d : Due) (own : List ℕ) : Type 0 where
-  pub fits : at ≤ length text
-  pub counted : here ≤ at + 1
-  pub gates : gates_so_far d ≤ at
+-- what a `?` hands on tells the faulty line that it met
+pub faulty_on : {read : Reading} {r : Result Form Refusal} {d : Refusal} (own : List ℕ) → (x : Refusal) × (r ≡ Err x) × (x ≡ d) → Tells read d
+    → FormRead read r own
+faulty_on own (x, e, f) t = rw (e, f) t
+
+-- the lines before those that are left are read, and their gates are held
+pub record Reads (names : List Word) (text : List ℕ) (first : ℕ) (left : List ℕ) (here : ℕ) (d : Due) (own : List ℕ) : Type 0 where
+  pub counted : here + length left ≤ first + length text
+  pub gates : gates_so_far d + length left ≤ length text
   pub words : List ℕ
-  pub is : read_from line (begun names) (lines_of (drop first text)) ≡ with_gate words (read_from here (stage_of names d) (lines_of (drop at text)))
+  pub is : read_from first (begun names) (lines_of text) ≡ with_gate words (read_from here (stage_of names d) (lines_of left))
   pub held : Held (length names) own (gates_so_far d) words
 
-module _ (names : List Word) (text : List ℕ) (first line : ℕ) where
-  pub reads_none : (own : List ℕ) → first ≤ length text → line ≤ first + 1 → Reads names text first line first line (Gate 0) own
-  reads_none own h k = record {
-    fits = h;
-    counted = k;
+module _ (names : List Word) (text : List ℕ) (first : ℕ) where
+  abbrev all : Reading
+  all = read_from first (begun names) (lines_of text)
+
+  pub reads_none : (own : List ℕ) → Reads names text first text first (Gate 0) own
+  reads_none own = record {
+    counted = omega arith;
     gates = omega arith;
     words = [];
-    is = sym (with_none (read_from line (begun names) (lines_of (drop first text))));
+    is = sym (with_none all);
     held = held_none (length names) own;
   }
 
-  module _ (at here : ℕ) (d : Due) (own : List ℕ) (r : Reads names text first line at here d own) where
-    module _ (to next : ℕ) (l : LineAt text at to next) where
+  module _ (left : List ℕ) (here : ℕ) (d : Due) (own : List ℕ) (r : Reads names text first left here d own) where
+    module _ (line rest : List ℕ) (l : IsFirstLine left line rest) where
       abbrev others : Stage → Reading
-      others s = read_from (here + 1) s (lines_of (drop next text))
+      others s = read_from (here + 1) s (lines_of rest)
 
-      one_line : read_from here (stage_of names d) (lines_of (drop at text)) ≡ onward here (step_of (stage_of names d) (part text at to)) others
+      one_line : read_from here (stage_of names d) (lines_of left) ≡ onward here (step_of (stage_of names d) line) others
       unfolding read_from
       one_line =
           ap (read_from here (stage_of names d)) l.split
-          ∙ ap (λ after. onward here (step_of (stage_of names d) (part text at to)) (λ s. read_from after s (lines_of (drop next text))))
-          (sym (add-one here))
+          ∙ ap (λ after. onward here (step_of (stage_of names d) line) (λ s. read_from after s (lines_of rest))) (sym (add-one here))
 
-      pub reads_more : (then : Due) (last : List ℕ) → Leads names d (part text at to) own then last
-          → Reads names text first line next (here + 1) then last
+      pub reads_more : (then : Due) (last : List ℕ) → Leads names d line own then last → Reads names text first rest (here + 1) then last
       reads_more then last w = record {
-        fits = l.fits;
-        counted = omega (arith, r.counted, l.more);
-        gates = omega (arith, r.gates, w.count, l.more);
+        counted = omega (arith, r.counted, l.shorter);
+        gates = omega (arith, r.gates, w.count, l.shorter);
         words = r.words ++ w.words;
         is = r.is ∙ ap (with_gate r.words) (one_line ∙ w.step here others) ∙ with_both r.words w.words (others (stage_of names then));
         held = w.holds r.words r.held;
       }
 
-      pub reads_faulty : (k : ℕ) → step_of (stage_of names d) (part text at to) ≡ stops k
-          → read_from line (begun names) (lines_of (drop first text)) ≡ faulty k here
-      reads_faulty k e = r.is ∙ ap (with_gate r.words) (one_line ∙ ap (λ s. onward here s others) e)
+      pub reads_faulty : (q : Refusal) → (step_of (stage_of names d) line ≡ stops (number_of q)) × (place_of q ≡ in_word here) → Tells all q
+      reads_faulty q (e, place) = record {
+        line = here;
+        faulty_there = r.is ∙ ap (with_gate r.words) (one_line ∙ ap (λ s. onward here s others) e);
+        place = place;
+      }
 
-    module _ (over : length text ≤ at) where
-      at_end_lem : read_from line (begun names) (lines_of (drop first text)) ≡ with_gate r.words (at_end here (stage_of names d))
-      unfolding read_from lines_of
-      at_end_lem = r.is ∙ ap (λ t. with_gate r.words (read_from here (stage_of names d) (lines_of t))) (drop_of_length-le text {i = at} over)
+    module _ (over : lines_of left ≡ []) where
+      at_end_lem : all ≡ with_gate r.words (at_end here (stage_of names d))
+      unfolding read_from
+      at_end_lem = r.is ∙ ap (λ ls. with_gate r.words (read_from here (stage_of names d) ls)) over
 
-      pub reads_unended : (gates : ℕ) → d ≡ Gate gates → read_from line (begun names) (lines_of (drop first text)) ≡ faulty 14 here
-      reads_unended gates e = at_end_lem ∙ ap (λ x. with_gate r.words (at_end here (stage_of names x))) e
+      pub reads_unended : (gates place : ℕ) → d ≡ Gate gates → place ≡ in_word here → Tells all (Text place)
+      reads_unended gates place e f = record {
+        line = here;
+        faulty_there = at_end_lem ∙ ap (λ x. with_gate r.words (at_end here (stage_of names x))) e;
+        place = f;
+      }
 
-      pub reads_ended : (gates : ℕ) → d ≡ Nothing gates
-          → Formed (read_from line (begun names) (lines_of (drop first text))) (length names) gates own
-      reads_ended gates e = record {
+      pub reads_ended : (count gates : ℕ) → d ≡ Nothing gates → count ≡ length names → Formed all (record { lines = count; gates = gates }) own
+      reads_ended count gates e f = rw f (record {
         words = r.words;
         is = at_end_lem ∙ ap (λ x. with_gate r.words (at_end here (stage_of names x))) e ∙ ap (circuit (length names)) (append-nil r.words);
         held = let same = ap gates_so_far e in rw (← same) r.held;
-      }
+      })

@@ -1,8 +1,6 @@
 -- What a text is that neither 15 nor 14 refuses.
-use Prim.Native.Nat.{ℕ}
-use mathlib.Core.Path.{◌≡◌, refl, sym, ap, ◌∙◌}
-use mathlib.Core.Bool.{false, false≢true}
-use mathlib.Core.List.{List}
+use Rattle.std.proofs.Common.{ℕ, ◌≡◌, refl, sym, ap, ◌∙◌, false, List}
+use Rattle.std.proofs.lemmas.Bool.{false≢true}
 use Rattle.basics.proofs.Tests.{or-false}
 use Rattle.real.specs.Reading.{Reading, reading}
 use Rattle.real.specs.Reading.Reading.{circuit, faulty}

@@ -1,10 +1,6 @@
--- What the answer tells: the refusal's number and place, or the number of lines and of gates.
-use Rattle.std.specs.Prelude.{[], ◌∷◌}
-use Rattle.refusals.specs.Tables.{Told}
-use Rattle.refusals.specs.Tables.Told.{answered, refused}
+-- What the answer tells: the number of lines and of gates.
+use Rattle.std.specs.Prelude.{ℕ, List, [], ◌∷◌}
 use Rattle.real_import.specs.declared.Imported.{Imported}
-use Rattle.real_import.specs.declared.Imported.TheVariants.{Circuit, Refused}
 
-abbrev pub told_imported : Imported → Told
-told_imported (Circuit lines gates) = answered (lines ∷ gates ∷ [])
-told_imported (Refused r) = refused r.number r.place
+abbrev pub imported_values : Imported → List ℕ
+imported_values imported = imported.lines ∷ imported.gates ∷ []

@@ -1,49 +1,40 @@
 // Gates that were read: held in words of the call's own, checked, and stored in the room.
-ghost use Rattle.std.specs.Prelude.{◌≡◌, ◌*◌, ◌≤◌, length};
+ghost use Rattle.std.specs.Prelude.{◌≡◌, ◌*◌, ◌≤◌, length, take, IfOk};
+ghost use Rattle.refusals.specs.Places.{in_word};
 ghost use Rattle.basics.specs.Lists.{onto};
 ghost use Rattle.circuit.specs.Limits.{most_gates};
+ghost use Rattle.circuit.specs.Checked.{Has};
 ghost use Rattle.real_import.specs.Lines.{held_after};
 ghost use Rattle.real_import.specs.Results.{ReadChecked};
 
-use circuit;
-use refusals;
-use refusals::{Checked, Refusal};
+use crate::lines::Form;
+use circuit::checked::Circuit;
+use circuit::rules::{self, bad_counts, bad_lines};
+use real_gates::Gate;
+use refusals::{Refusal, in_word, refuse_when};
 
 // Holds a gate after so many others, if there is room for it.
-pub fn hold(own: &mut [u32], gates: usize, controls: u32, target: u32)
-    ensures { own.new ≡ held_after own.old gates controls target }
+pub fn hold(own: &mut [u32], gates: usize, gate: Gate)
+    ensures { own.new ≡ held_after own.old gates gate.controls gate.target }
 {
     if gates < own.len() / 3 {
         let at = 3 * gates;
-        own[at] = controls;
-        own[at + 1] = 0;
-        own[at + 2] = target;
+        own[at..at + 3].copy_from_slice(&[gate.controls, 0, gate.target]);
     }
 }
 
 // The rules of a circuit whose gates are held, and of the room for them.
-pub fn check_read(lines: usize, gates: usize, own: &[u32], room: usize) -> Checked
+pub fn check_read<'a>(form: Form, own: &'a [u32], room: usize) -> Result<Circuit<'a>, Refusal>
     requires { 3 * most_gates ≤ length own.now }
-    ensures { ReadChecked lines gates own.now room result }
+    ensures rules { ReadChecked form.lines form.gates own.now room result }
+    ensures circuit { IfOk result (Has (in_word form.lines) (take (3 * form.gates) own.now)) }
 {
-    let n = refusals::in_word(lines);
-    if circuit::rules::bad_lines(n) {
-        return Checked::Wrong(Refusal {
-            number: 3,
-            place: 0,
-        });
-    }
-    if circuit::rules::bad_counts(gates, 0) {
-        return Checked::Wrong(Refusal {
-            number: 5,
-            place: 0,
-        });
-    }
-    let words = 3 * gates;
-    if let Checked::Wrong(refusal) = circuit::rules::check_circuit(n, &own[..words]) {
-        return Checked::Wrong(refusal);
-    }
-    refusals::unless(words <= room, 10, 0)
+    let lines = in_word(form.lines);
+    refuse_when(bad_lines(lines), Refusal::Lines)?;
+    refuse_when(bad_counts(form.gates, 0), Refusal::Counts)?;
+    let circuit = rules::check_circuit(lines, &own[..3 * form.gates])?;
+    refuse_when(room < circuit.gates.len(), Refusal::Room)?;
+    Ok(circuit)
 }
 
 // Words into the front of a list.
@@ -51,9 +42,5 @@ pub fn store(words: &[u32], room: &mut [u32])
     requires { length words.now ≤ length room.old }
     ensures { room.new ≡ onto words.now room.old }
 {
-    let mut i = 0;
-    while i < words.len() {
-        room[i] = words[i];
-        i += 1;
-    }
+    room[..words.len()].copy_from_slice(words);
 }

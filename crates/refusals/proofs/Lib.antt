@@ -1,4 +1,5 @@
 pub mod Clashes
 pub mod Tables
+pub mod OneAnswer
 pub mod Places
 pub mod FirstPlaces

@@ -7,9 +7,17 @@ use native.Mathlib.Numerals.{add-one}
 use native.Mathlib.Omega.{arith}
 use lib.ListN.{length, get_or, drop, drop_of_length-le}
 use lib.Seq.{drop-cons}
+use Rattle.std.proofs.Math.Nat.{min-eq_left}
+use Rattle.std.proofs.Common.{◌^◌}
 use Rattle.basics.specs.Choice.{choice}
 use Rattle.basics.specs.Lists.{All}
-use Rattle.refusals.specs.Places.{first_bad_from}
+use borrow.Author.Tests.{ne_eqb}
+use mathlib.Core.Bool.{not}
+use lib.Dec.{eqb}
+use Rattle.refusals.specs.Places.{first_bad_from, in_word}
+use Rattle.refusals.specs.Tables.{Told}
+use Rattle.refusals.specs.Tables.Told.{refused}
+use Rattle.refusals.specs.Answers.{fine}
 
 -- a choice of places that is 0 chose the second, and it is 0
 choice-zero : (b : Bool) (k m : ℕ) → choice b (suc k) m ≡ 0 → (b ≡ false) × (m ≡ 0)
@@ -19,6 +27,27 @@ choice-zero false k m e = (refl, e)
 choice-le : (b : Bool) (a k m : ℕ) → a ≤ m → k ≤ m → choice b a k ≤ m
 choice-le true a k m p q = p
 choice-le false a k m p q = q
+
+-- a place that a word holds is told as it is
+pub in_word_small : (number : ℕ) → number < 2 ^ 32 → in_word number ≡ number
+unfolding in_word
+in_word_small number h = min-eq_left (omega arith)
+
+-- a rule that tells the place of the first bad entry as a word can tell it, or that there is none
+abbrev pub rule_told : ℕ → ℕ → Told
+rule_told number place = choice (not (eqb place 0)) (refused number (in_word place)) fine
+
+-- at a place, at none, and at the place after the last where something is left over
+pub told_at : (number place i : ℕ) → place ≡ i + 1 → refused number (in_word (i + 1)) ≡ rule_told number place
+told_at number place i e = rw (e, ne_eqb (i + 1) 0 (λ z. absurd (omega arith)))
+
+pub told_none : (number place : ℕ) → place ≡ 0 → fine ≡ rule_told number place
+told_none number place e = rw e
+
+pub told_after : (leftOver : Bool) (number place i : ℕ) → place ≡ choice leftOver (i + 1) 0
+    → choice leftOver (refused number (in_word (i + 1))) fine ≡ rule_told number place
+told_after true number place i e = told_at number place i e
+told_after false number place i e = told_none number place e
 
 module _ {ℓ} {A : Type ℓ} (bad : A → Bool) (leftOver : Bool) where
   -- at place i + 1 of the list: a bad entry, a good one, and the end

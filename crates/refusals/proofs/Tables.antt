@@ -8,8 +8,7 @@ use Rattle.basics.specs.Lists.{All}
 use Rattle.refusals.specs.Tables.{Row, Told, first_of, after}
 use Rattle.refusals.specs.Tables.Row.{refuse◌at◌when◌}
 use Rattle.refusals.specs.Tables.Told.{answered, refused}
-use Rattle.refusals.specs.Checks.{fine}
-use Rattle.refusals.specs.declared.Refusal.{Refusal}
+use Rattle.refusals.specs.Answers.{fine}
 use Rattle.refusals.proofs.Clashes.{answered-refused, refused-answered}
 
 -- what some rows refuse, every table that begins with them refuses, whatever the answer would be
@@ -30,10 +29,10 @@ refused_all [] answer k p e = refused-answered e
 refused_all (refuse n at q when true ∷ rows) answer k p e = e
 refused_all (refuse n at q when false ∷ rows) answer k p e = refused_all rows answer k p e
 
-pub fine-all : (rows : List Row) (answer : Told) → fine ≡ first_of rows fine → answer ≡ first_of rows answer
-fine-all [] answer e = refl
-fine-all (refuse n at q when true ∷ rows) answer e = answered-refused e
-fine-all (refuse n at q when false ∷ rows) answer e = fine-all rows answer e
+pub fine_all : (rows : List Row) (answer : Told) → fine ≡ first_of rows fine → answer ≡ first_of rows answer
+fine_all [] answer e = refl
+fine_all (refuse n at q when true ∷ rows) answer e = answered-refused e
+fine_all (refuse n at q when false ∷ rows) answer e = fine_all rows answer e
 
 -- and of memory: a refused call leaves it, and any other makes of it what it makes
 pub after-refused {ℓ} : {A : Type ℓ} (rows : List Row) (made old : A) (k p : ℕ) → refused k p ≡ first_of rows fine → old ≡ after rows made old
@@ -46,6 +45,9 @@ after-fine [] made old e = refl
 after-fine (refuse n at q when true ∷ rows) made old e = answered-refused e
 after-fine (refuse n at q when false ∷ rows) made old e = after-fine rows made old e
 
+-- what a call is proved by that answers once all rules have passed, and one that writes into lent memory too
+pub ruleset calls = (refused_all, fine_all, after-refused, after-fine)
+
 -- a table of which no rule is broken has no broken rule in its parts
 pub fine-parts : (rows more : List Row) → fine ≡ first_of (rows ++ more) fine → (fine ≡ first_of rows fine) × (fine ≡ first_of more fine)
 fine-parts [] more e = (refl, e)
@@ -56,6 +58,20 @@ fine-parts (refuse n at q when false ∷ rows) more e = fine-parts rows more e
 pub fine_row : (broken : Bool) (k p : ℕ) (rest : Told) → fine ≡ choice broken (refused k p) rest → (broken ≡ false) × (fine ≡ rest)
 fine_row true k p rest e = answered-refused e
 fine_row false k p rest e = (refl, e)
+
+-- what the first rule refuses is refused whatever the rest is
+pub refused_row : (broken : Bool) (n q k p : ℕ) (rest : Told) → refused k p ≡ choice broken (refused n q) fine
+    → refused k p ≡ choice broken (refused n q) rest
+refused_row true n q k p rest e = e
+refused_row false n q k p rest e = refused-answered e
+
+-- and past a first rule that is not broken the rest decides
+pub passed_row : (broken : Bool) (n q : ℕ) (rest : Told) → fine ≡ choice broken (refused n q) fine → choice broken (refused n q) rest ≡ rest
+passed_row true n q rest e = answered-refused e
+passed_row false n q rest e = refl
+
+-- what checks in turn are proved by
+pub ruleset turns = (refused_row, passed_row, refused_on, fine_on)
 
 -- a call that answers breaks no rule and tells its own answer
 pub answered-fine : (rows : List Row) (values answer : List ℕ) → answered values ≡ first_of rows (answered answer)
@@ -98,10 +114,3 @@ pub refused_small_on : (bound : ℕ) (rows more : List Row) (k p : ℕ) → All 
 refused_small_on bound [] more k p w v e = refused_small bound more k p (v refl) e
 refused_small_on bound (refuse n at q when true ∷ rows) more k p w v e = refused_small bound (refuse n at q when true ∷ []) k p (w.0, tt) e
 refused_small_on bound (refuse n at q when false ∷ rows) more k p w v e = refused_small_on bound rows more k p w.1 v e
-
--- two refusals that tell the same are the same
-pub told_refusal : (p q : Refusal) → refused p.number p.place ≡ refused q.number q.place → p ≡ q
-told_refusal p q e =
-    let n : p.number ≡ q.number = cc in
-    let m : p.place ≡ q.place = cc in
-    λ i. record { number = n i; place = m i }

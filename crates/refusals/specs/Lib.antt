@@ -1,3 +1,3 @@
 pub mod Tables
 pub mod Places
-pub mod Checks
+pub mod Answers

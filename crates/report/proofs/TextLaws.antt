@@ -1,30 +1,33 @@
--- What the library's answer says of a text that is always told whole: its number of bytes, and that it stands at the front.
-use Prim.Native.Nat.{ℕ}
-use mathlib.Core.Path.{◌≡◌, sym, ap, ◌∙◌}
-use mathlib.Core.List.{List, ◌++◌}
-use native.Mathlib.Omega.{arith}
-use lib.ListN.{length, take, length-append}
-use lib.Seq.{take-append_seam}
+-- What the library's answer says of a report whose room holds the longest: its number of bytes, and that its text stands at the front.
+use Rattle.std.proofs.Common.{◌≡◌, ℕ, ◌≤◌, List, ◌++◌, length, take, Result, Ok, sym, ap, arith}
+use Rattle.std.proofs.lemmas.Bool.{le-ltb}
+use Rattle.std.proofs.lemmas.List.{length-append}
+use Rattle.std.proofs.Math.Seq.{take-append_seam}
 use Rattle.std.specs.Counts.{IsPrefixLen}
-use Rattle.report_text.specs.Answers.{told_reported}
-use Rattle.report_text.specs.declared.Reported.{Reported}
-use Rattle.report_text.specs.declared.Reported.TheVariants.{Bytes, Refused}
-use Rattle.report_text.proofs.AnswerLaws.{told_reported-one}
+use Rattle.refusals.specs.Answers.{told_word}
+use Rattle.refusals.specs.declared.Refusal.{Refusal}
+use Rattle.refusals.proofs.OneAnswer.{told_word-one}
+use Rattle.report_text.specs.Report.{report_text, longest_report}
+use Rattle.report_text.specs.Promises.{report_tells, report_leaves}
+use Rattle.report_text.specs.Rules.{report_rows}
+use Rattle.report_text.proofs.ReportLaws.{report_fits}
 
-bytes_one : (a b : ℕ) → Bytes a ≡ Bytes b → a ≡ b
-bytes_one a b e = cc
+-- the room is not too small
+pub told_whole : (r : Result ℕ Refusal) (bytes room : List ℕ) → longest_report ≤ length room → told_word r ≡ report_tells bytes room
+    → r ≡ Ok (length (report_text bytes))
+unfolding report_rows
+told_whole r bytes room wide told =
+    let fits = le-ltb (length room) (length (report_text bytes)) (omega (arith, wide, report_fits bytes)) in
+    told_word-one r (Ok (length (report_text bytes))) (rw fits at told)
 
-pub told_number : (r : Reported) (count number : ℕ) → r ≡ Bytes count → told_reported r ≡ told_reported (Bytes number) → count ≡ number
-told_number r count number e told = bytes_one count number (sym e ∙ told_reported-one r (Bytes number) told)
+front_of : (text rest bytes : List ℕ) → bytes ≡ text ++ rest → IsPrefixLen (length text) bytes × (take (length text) bytes ≡ text)
+front_of text rest bytes e =
+    let front : take (length text) bytes ≡ text = rw e (take-append_seam text rest) in
+    ((rw e (omega (arith, length-append text rest)), ap length (sym front)), front)
 
-pub never_refused : (r : Reported) (number : ℕ) {refusal : _} → r ≡ Refused refusal → told_reported r ≡ told_reported (Bytes number) → ⊥
-never_refused r number {refusal} e told =
-    let mixed : Bytes number ≡ Refused refusal = sym (told_reported-one r (Bytes number) told) ∙ e in
-    let same : ◌≡◌ {A = ℕ} 0 1 = cc in
-    omega arith
-
-pub front_of : (text rest bytes : List ℕ) (count : ℕ) → count ≡ length text → bytes ≡ text ++ rest
-    → IsPrefixLen count bytes × (take count bytes ≡ text)
-front_of text rest bytes count n e =
-    let front : take count bytes ≡ text = rw (n, e) (take-append_seam text rest) in
-    ((rw e (omega (arith, n, length-append text rest)), n ∙ ap length (sym front)), front)
+pub left_whole : (bytes room new : List ℕ) → longest_report ≤ length room → new ≡ report_leaves bytes room
+    → IsPrefixLen (length (report_text bytes)) new × (take (length (report_text bytes)) new ≡ report_text bytes)
+unfolding report_rows
+left_whole bytes room new wide left =
+    let fits = le-ltb (length room) (length (report_text bytes)) (omega (arith, wide, report_fits bytes)) in
+    front_of (report_text bytes) _ new (rw fits at left)

@@ -2,29 +2,22 @@
 // What could not be read or written it says on standard error, and an input that was not read to its end gets no report.
 #![tactic(auto)]
 
-ghost use Rattle.std.specs.Prelude.{◌≡◌, ◌≤◌, length, take};
+ghost use Rattle.std.specs.Prelude.{◌≡◌, ◌≤◌, length, take, IfOk};
 ghost use Rattle.std.specs.Counts.{IsPrefixLen};
 ghost use Rattle.report_text.specs.Report.{report_text, input_room};
-ghost use Rattle.report.specs.Input.{Within, IsFront};
+ghost use Rattle.report.specs.Input.{IsFront};
 
-use report_text::Reported;
 use report_text::limits::{INPUT_ROOM, LONGEST_REPORT};
+use std::io;
 use std::io::Read;
 
 // What is read of an input: as much as tells its report.
 const ROOM: usize = INPUT_ROOM;
 
-// How many bytes were read, or that a read failed.
-#[derive(Clone, Copy)]
-enum Input {
-    Bytes(usize),
-    Unread,
-}
-
 // What is read is within the room, which is the one that the promise of the text asks for. Nobody is left to be told that a complaint failed.
 fn main(rt: HostRuntime) {
     let mut job = [0u8; ROOM];
-    let Input::Bytes(length) = read_input(&mut rt.stdin(), &mut job) else {
+    let Ok(length) = read_input(&mut rt.stdin(), &mut job) else {
         let _ = rt.eprintln("report: the input could not be read");
         return;
     };
@@ -36,21 +29,20 @@ fn main(rt: HostRuntime) {
 }
 
 // Reads until the room is full or the input ends. A read answers 0 at the end and an error where it fails.
-fn read_input<R: Read>(input: &mut R, job: &mut [u8]) -> Input
-    ensures within { Within result (length job.old) }
-    ensures front { IsFront result (R.remaining input.old) job.new }
+#[tactic(auto, using(crate::proofs::ReadLaws::read_more))]
+fn read_input<R: Read>(input: &mut R, job: &mut [u8]) -> io::Result<usize>
+    ensures within { IfOk result (λ done. done ≤ length job.old) }
+    ensures front { IfOk result (λ done. IsFront done (R.remaining input.old) job.new) }
 {
     let mut done = 0;
     while done < job.len() {
-        let Ok(more) = input.read(&mut job[done..]) else {
-            return Input::Unread;
-        };
+        let more = input.read(&mut job[done..])?;
         if more == 0 {
-            return Input::Bytes(done);
+            return Ok(done);
         }
         done += more;
     }
-    Input::Bytes(done)
+    Ok(done)
 }
 
 // The report on the bytes that were read, and where it ends. There is room for any, so the call answers.
@@ -59,9 +51,8 @@ fn text_of(job: &[u8; ROOM], length: usize, text: &mut [u8; LONGEST_REPORT]) -> 
     ensures prefix_len { IsPrefixLen result text.new }
     ensures text_after { take result text.new ≡ report_text (take length job.now) }
 {
-    let whole: &[u8] = job;
-    if let Reported::Bytes(count) = report_text::report(&whole[..length], text) {
-        return count as usize;
+    match report_text::report(&job[..length], text) {
+        Ok(count) => count as usize,
+        Err(_) => 0,
     }
-    0
 }

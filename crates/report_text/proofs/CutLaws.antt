@@ -10,7 +10,7 @@ use lib.ListN.{length, take}
 use lib.Seq.{length-take-le, take-take, take_all}
 use Rattle.refusals.specs.Tables.{Told}
 use Rattle.refusals.specs.Tables.Told.{refused}
-use Rattle.refusals.specs.Checks.{fine}
+use Rattle.refusals.specs.Answers.{fine}
 use Rattle.circuit.specs.Limits.{most_gates, most_vectors}
 use Rattle.job.specs.Image.{header_length}
 use Rattle.job.proofs.LongLaws.{Long, told_long, long_is_refused, long_told, long_same}

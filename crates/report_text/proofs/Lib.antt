@@ -2,5 +2,4 @@ pub mod LineLaws
 pub mod ClassLaws
 pub mod LengthLaws
 pub mod ReportLaws
-pub mod AnswerLaws
 pub mod CutLaws

@@ -1,17 +1,18 @@
 -- Laws of the whole report: its text in parts, and what bytes that are read say of it.
-use Prim.Native.Nat.{ℕ, ◌+◌, ◌*◌, ◌/◌, ◌^◌, ◌<◌, ◌≤◌}
+use Prim.Native.Nat.{ℕ, ◌*◌, ◌/◌, ◌^◌, ◌<◌, ◌≤◌}
 use mathlib.Core.Path.{◌≡◌, refl, ap, sym, ◌∙◌}
 use mathlib.Core.Bool.{false}
 use mathlib.Core.List.{List, [], ◌∷◌, ◌++◌, append_assoc, append-nil}
 use native.Mathlib.Omega.{arith}
-use lib.ListN.{length, take, replicate}
+use lib.ListN.{length, take, drop, replicate}
+use Rattle.basics.specs.Choice.{choice}
 use lib.Seq.{sets, take-append_seam, length-sets}
-use borrow.Author.Tests.{lt-ltb, le-ltb}
+use borrow.Author.Tests.{le-ltb}
 use Rattle.basics.specs.Lists.{each, All}
 use Rattle.refusals.specs.Tables.{Row, Told, first_of}
 use Rattle.refusals.specs.Tables.Told.{answered, refused}
-use Rattle.refusals.specs.Checks.{fine}
-use Rattle.refusals.proofs.Tables.{refused_on, fine_on, fine-parts, after-fine, answered-fine, refused_rows, Small, refused_small_on}
+use Rattle.refusals.specs.Answers.{fine}
+use Rattle.refusals.proofs.Tables.{refused_on, fine_on, fine-parts, refused_all, after-refused, after-fine, answered-fine, refused_rows, Small, refused_small_on}
 use Rattle.circuit.specs.Limits.{most_gates, most_vectors}
 use Rattle.circuit.specs.Rules.{first_bad_gate, first_bad_vector}
 use Rattle.circuit.specs.Sound.{Sound}
@@ -19,11 +20,13 @@ use Rattle.circuit.proofs.GateLaws.{gates_count}
 use Rattle.circuit.proofs.RuleLaws.{VectorsOk, first_bad-le, first_vector_le}
 use Rattle.job.specs.Image.{lines_in, classes_in, gates_in, vectors_in, gate_words, vector_words}
 use Rattle.job.specs.Promises.{read_tells, read_leaves_gates, read_leaves_vectors}
-use Rattle.job.specs.Answers.{told_read}
-use Rattle.job.specs.declared.Read.{Read}
-use Rattle.job.specs.declared.Read.TheVariants.{Job}
+use Rattle.std.specs.Prelude.{Result, Ok, ltb}
+use Rattle.refusals.specs.Answers.{told}
+use Rattle.refusals.specs.declared.Refusal.{Refusal}
+use Rattle.job.specs.Answers.{job_values}
+use Rattle.job.specs.declared.Job.{Job}
 use Rattle.job.specs.Rules.{read_rows, header_rows, content_rows, content_rows_in, room_rows}
-use Rattle.basics.proofs.PutLaws.{sets-append, sets_front}
+use Rattle.basics.proofs.PutLaws.{sets_front}
 use Rattle.job.proofs.ImageLaws.{gates_front, vectors_front, length-gate_words, length-vector_words}
 use Rattle.job.proofs.HeaderLaws.{header_ok}
 use Rattle.job.proofs.ReadLaws.{read_ok, read_set}
@@ -40,19 +43,16 @@ bare : (letter : ℕ) (numbers : List ℕ) → numbers_line letter numbers false
 unfolding numbers_line ok_text
 bare letter numbers = ap (line letter) (append-nil (each spaced numbers))
 
-pub refused-line : (number place : ℕ) → numbers_line 69 (number ∷ place ∷ []) false ≡ refused_text number place
+pub refused_line : (number place : ℕ) → numbers_line 69 (number ∷ place ∷ []) false ≡ refused_text number place
 unfolding refused_text
-refused-line number place = bare 69 (number ∷ place ∷ [])
+refused_line number place = bare 69 (number ∷ place ∷ [])
 
 pub job_line_lem : (n : ℕ) (words xs : List ℕ) → numbers_line 74 (n ∷ length words / 3 ∷ length xs ∷ []) false ≡ job_line n words xs
 job_line_lem n words xs = rw (gates_count words) (bare 74 (n ∷ length words / 3 ∷ length xs ∷ []))
 
-pub job_put : (text lined last : List ℕ) (n classes : ℕ) (words xs : List ℕ) (end : ℕ) → end ≡ 0 + length (job_line n words xs)
-    → lined ≡ sets text 0 (job_line n words xs) → last ≡ sets lined end (class_lines n classes words xs)
-    → last ≡ sets text 0 (job_text n classes words xs)
+pub job_parts : (n classes : ℕ) (words xs : List ℕ) → job_line n words xs ++ class_lines n classes words xs ≡ job_text n classes words xs
 unfolding job_text
-job_put text lined last n classes words xs end e p q =
-    rw (q, p) (sets-append text 0 end (job_line n words xs) (class_lines n classes words xs) (sym e))
+job_parts n classes words xs = refl
 
 -- ---- what a reading tells
 
@@ -83,14 +83,15 @@ pub record JobRead (bytes gates vectors : List ℕ) (n k d m : ℕ) : Type 0 whe
   pub vectors_in : m ≤ most_vectors
 
 -- what the call's promise says of a job that it answers
-pub job_read : (r : Read) (bytes oldGates oldVectors gates vectors : List ℕ) (n k d m : ℕ) → r ≡ Job n k d m
-    → (told_read r ≡ read_tells bytes oldGates oldVectors)
+pub job_read : (r : Result Job Refusal) (bytes oldGates oldVectors gates vectors : List ℕ) (n k d m : ℕ)
+    → r ≡ Ok (record { lines = n; classes = k; gates = d; vectors = m })
+    → (told job_values r ≡ read_tells bytes oldGates oldVectors)
     × ((gates ≡ read_leaves_gates bytes oldGates oldVectors) × (vectors ≡ read_leaves_vectors bytes oldGates oldVectors))
     → length oldGates ≡ 3 * most_gates → length oldVectors ≡ most_vectors → JobRead bytes gates vectors n k d m
 job_read r bytes oldGates oldVectors gates vectors n k d m is promise p q =
     let rows = read_rows bytes (length oldGates) (length oldVectors) in
-    let told : answered (n ∷ k ∷ d ∷ m ∷ []) ≡ read_tells bytes oldGates oldVectors = sym (ap told_read is) ∙ promise.0 in
-    let w = answered-fine rows _ _ told in
+    let answer : answered (n ∷ k ∷ d ∷ m ∷ []) ≡ read_tells bytes oldGates oldVectors = sym (ap (told job_values) is) ∙ promise.0 in
+    let w = answered-fine rows _ _ answer in
     let fits = read_ok bytes (length oldGates) (length oldVectors) w.1 in
     let same : d ≡ gates_in bytes = cc in
     let many : m ≡ vectors_in bytes = cc in
@@ -112,11 +113,6 @@ module _ (bytes gates vectors : List ℕ) (n k d m : ℕ) (w : JobRead bytes gat
 
   pub job_text_lem : job_text n k (take (3 * d) gates) (take m vectors) ≡ report_text bytes
   job_text_lem = rw (w.lines_are, w.classes_are, w.gates_are, w.vectors_are) (report_job bytes w.passed)
-
--- equal texts are put alike
-pub text_as : (text last : List ℕ) (end : ℕ) {t u : List ℕ} → t ≡ u
-    → (end ≡ length t) × (last ≡ sets text 0 t) → (end ≡ length u) × (last ≡ sets text 0 u)
-text_as text last end same h = rw (← same) h
 
 -- ---- the call
 
@@ -170,16 +166,17 @@ text_end bytes last end e f =
     )
 
 module _ (bytes out : List ℕ) (end : ℕ) (is : end ≡ length (report_text bytes)) where
-  pub report_short : length out < end → (refused 10 0 ≡ report_tells bytes out) × (out ≡ report_leaves bytes out)
+  pub report_short : (k p : ℕ) → refused k p ≡ choice (ltb (length out) end) (refused 10 0) fine
+      → (refused k p ≡ report_tells bytes out) × (out ≡ report_leaves bytes out)
   unfolding report_rows
-  report_short h = rw (lt-ltb (length out) (length (report_text bytes)) (omega arith)) (refl, refl)
+  report_short k p e =
+      let row : refused k p ≡ first_of (report_rows bytes (length out)) fine = rw (← is) e in
+      (refused_all (report_rows bytes (length out)) _ k p row, after-refused (report_rows bytes (length out)) _ _ k p row)
 
-  pub report_put : end ≤ length out → (last : List ℕ) → last ≡ sets out 0 (report_text bytes)
-      → (answered (end ∷ []) ≡ report_tells bytes out) × (last ≡ report_leaves bytes out)
+  pub report_put : end ≤ length out → (front : List ℕ) → front ≡ report_text bytes
+      → (answered (end ∷ []) ≡ report_tells bytes out) × (front ++ drop end out ≡ report_leaves bytes out)
   unfolding report_rows
-  report_put h last e =
-      rw (le-ltb (length out) (length (report_text bytes)) (omega arith))
-      (ap (λ n. answered (n ∷ [])) is, e ∙ sets_front out (report_text bytes) (omega arith))
+  report_put h front e = rw (le-ltb (length out) (length (report_text bytes)) (omega arith), is, e) (refl, refl)
 
 -- ---- what callers may lean on
 

@@ -2,5 +2,4 @@ pub mod Lines
 pub mod Report
 pub mod Rules
 pub mod Parts
-pub mod Answers
 pub mod Promises

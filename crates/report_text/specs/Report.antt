@@ -4,7 +4,7 @@ use Rattle.basics.specs.Choice.{choice}
 use Rattle.basics.specs.Lists.{each}
 use Rattle.refusals.specs.Tables.{Row, Told, first_of}
 use Rattle.refusals.specs.Tables.Told.{answered, refused}
-use Rattle.refusals.specs.Checks.{fine}
+use Rattle.refusals.specs.Answers.{fine}
 use Rattle.circuit.specs.Limits.{most_gates, most_vectors}
 use Rattle.circuit.specs.Gates.{gates_of}
 use Rattle.circuit.specs.declared.Gate.{Gate}

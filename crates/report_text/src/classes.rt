@@ -1,121 +1,82 @@
 // The lines of the classes wanted.
-ghost use Rattle.std.specs.Prelude.{◌≡◌, ◌+◌, ◌≤◌, length};
-ghost use Rattle.std.proofs.lemmas.List.Edits.{sets};
-ghost use Rattle.circuit.specs.Gates.{gates_of};
-ghost use Rattle.circuit.specs.Sound.{Sound};
+ghost use Rattle.std.specs.Prelude.{◌≡◌};
+ghost use Rattle.text.specs.Writing.{Fits, Put};
+ghost use Rattle.circuit.specs.Checked.{gates_in};
+ghost use Rattle.faults.specs.Kinds.{class_number};
 ghost use Rattle.report_text.specs.Report.{letter_of, class_lines};
 ghost use Rattle.report_text.specs.Parts.{numbers_shown, verdict_text, wanted_text};
 
 use crate::lines::put_line;
-use faults::Fault;
+use circuit::checked::Circuit;
+use faults::classes::{Class, GateClass};
 use job::wanted::is_wanted;
 use judge::Verdict;
 use judge::checked::judge_class;
+use text::writing::Writer;
 
-// The letter of a class, and a question mark for a number that is no class.
-fn letter_of(class: u32) -> u8
-    ensures { result ≡ letter_of class }
+// The letter of a class.
+#[tactic(auto, unfolding(crate::specs::Report::letter_of))]
+fn letter_of(class: Class) -> u8
+    ensures { result ≡ letter_of (class_number class) }
 {
     match class {
-        1 => b'S',
-        2 => b'M',
-        3 => b'C',
-        4 => b'X',
-        _ => b'?',
+        Class::StuckAt => b'S',
+        Class::AtGate(GateClass::MissingGate) => b'M',
+        Class::AtGate(GateClass::MissingControl) => b'C',
+        Class::AtGate(GateClass::ExtraControl) => b'X',
     }
 }
 
 // How many numbers the line of a class with an uncaught fault has.
-fn numbers_shown(class: u32) -> usize
-    ensures { result ≡ numbers_shown class }
+#[tactic(auto, unfolding(crate::specs::Parts::numbers_shown))]
+fn numbers_shown(class: Class) -> usize
+    ensures { result ≡ numbers_shown (class_number class) }
 {
     match class {
-        1 => 5,
-        2 => 3,
-        3 => 4,
-        4 => 4,
-        _ => 2,
+        Class::StuckAt => 5,
+        Class::AtGate(GateClass::MissingGate) => 3,
+        Class::AtGate(GateClass::MissingControl) => 4,
+        Class::AtGate(GateClass::ExtraControl) => 4,
     }
 }
 
-// The line of a class that is complete.
-fn put_complete(out: &mut [u8], at: usize, class: u32, caught: u32, total: u32) -> usize
-    requires { at + length (verdict_text class (Verdict.Complete caught total)) ≤ length out.old }
-    ensures { (result ≡ at + length (verdict_text class (Verdict.Complete caught total)))
-        × (out.new ≡ sets out.old at (verdict_text class (Verdict.Complete caught total))) }
+// The line of a verdict: ok where the class is complete, and else the first uncaught fault.
+fn put_verdict(text: &mut Writer, class: Class, verdict: Verdict)
+    requires { Fits text.old (verdict_text (class_number class) verdict) }
+    ensures { Put text.old text.new (verdict_text (class_number class) verdict) }
 {
-    let numbers = [caught, total];
-    put_line(out, at, letter_of(class), &numbers, true)
-}
-
-// The line of a class with an uncaught fault.
-fn put_left(out: &mut [u8], at: usize, class: u32, caught: u32, total: u32, first: Fault) -> usize
-    requires { at + length (verdict_text class (Verdict.Left caught total first)) ≤ length out.old }
-    ensures { (result ≡ at + length (verdict_text class (Verdict.Left caught total first)))
-        × (out.new ≡ sets out.old at (verdict_text class (Verdict.Left caught total first))) }
-{
-    let numbers = [caught, total, first.place, first.line, first.value];
-    let count = numbers_shown(class);
-    put_line(out, at, letter_of(class), &numbers[..count], false)
-}
-
-// The line of a verdict.
-fn put_verdict(out: &mut [u8], at: usize, class: u32, verdict: Verdict) -> usize
-    requires { at + length (verdict_text class verdict) ≤ length out.old }
-    ensures { (result ≡ at + length (verdict_text class verdict)) × (out.new ≡ sets out.old at (verdict_text class verdict)) }
-{
-    match verdict {
-        Verdict::Complete { caught, total } => put_complete(out, at, class, caught, total),
-        Verdict::Left {
-            caught,
-            total,
-            first,
-        } => put_left(out, at, class, caught, total, first),
-        Verdict::Refused(refusal) => at,
+    let letter = letter_of(class);
+    match verdict.first {
+        None => put_line(text, letter, &[verdict.caught, verdict.total], true),
+        Some(fault) => {
+            let numbers = [
+                verdict.caught,
+                verdict.total,
+                fault.place,
+                fault.line,
+                fault.value,
+            ];
+            put_line(text, letter, &numbers[..numbers_shown(class)], false);
+        }
     }
 }
 
 // The line of a class if it is wanted.
-fn put_wanted(
-    out: &mut [u8],
-    at: usize,
-    lines: u32,
-    gates: &[u32],
-    vectors: &[u32],
-    classes: u32,
-    class: u32,
-) -> usize
-    requires sound { Sound lines gates.now }
-    requires le_class { (1 ≤ class) × (class ≤ 4) }
-    requires class_in_bounds { at + length (wanted_text lines (gates_of gates.now) vectors.now classes class) ≤ length out.old }
-    ensures { (result ≡ at + length (wanted_text lines (gates_of gates.now) vectors.now classes class))
-        × (out.new ≡ sets out.old at (wanted_text lines (gates_of gates.now) vectors.now classes class)) }
+fn put_wanted(text: &mut Writer, circuit: &Circuit, vectors: &[u32], classes: u32, class: Class)
+    requires { Fits text.old (wanted_text circuit.now.lines (gates_in circuit.now) vectors.now classes (class_number class)) }
+    ensures { Put text.old text.new (wanted_text circuit.now.lines (gates_in circuit.now) vectors.now classes (class_number class)) }
 {
-    if !is_wanted(classes, class) {
-        return at;
+    if is_wanted(classes, class.number()) {
+        put_verdict(text, class, judge_class(circuit, vectors, class));
     }
-    put_verdict(out, at, class, judge_class(lines, gates, vectors, class))
 }
 
 // The lines of the classes wanted, in code order.
-pub fn put_classes(
-    out: &mut [u8],
-    at: usize,
-    lines: u32,
-    gates: &[u32],
-    vectors: &[u32],
-    classes: u32,
-) -> usize
-    requires sound { Sound lines gates.now }
-    requires vectors_in_bounds { at + length (class_lines lines classes gates.now vectors.now) ≤ length out.old }
-    ensures { (result ≡ at + length (class_lines lines classes gates.now vectors.now))
-        × (out.new ≡ sets out.old at (class_lines lines classes gates.now vectors.now)) }
+pub fn put_classes(text: &mut Writer, circuit: &Circuit, vectors: &[u32], classes: u32)
+    requires { Fits text.old (class_lines circuit.now.lines classes circuit.now.gates.now vectors.now) }
+    ensures { Put text.old text.new (class_lines circuit.now.lines classes circuit.now.gates.now vectors.now) }
 {
-    let mut end = at;
-    let mut class = 1;
-    while class <= 4 {
-        end = put_wanted(out, end, lines, gates, vectors, classes, class);
-        class += 1;
+    for class in Class::ALL {
+        put_wanted(text, circuit, vectors, classes, class);
     }
-    end
 }

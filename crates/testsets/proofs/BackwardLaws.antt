@@ -1,17 +1,10 @@
 -- The backward set catches every stuck-at fault: at each level two of its vectors have every line inverted.
-use Prim.Native.Nat.{ℕ, zero, suc, ◌+◌, ◌-◌, ◌^◌, ◌≤◌, ◌<◌}
-use mathlib.Core.Path.{◌≡◌, refl, sym, ap, ap₂, ◌∙◌}
-use mathlib.Core.Logic.{◌≢◌}
-use mathlib.Core.Bool.{Bool, true, not}
-use mathlib.Core.List.{List, ◌∷◌, ◌++◌, map, Memᴰ}
-use native.Mathlib.Numerals.{add-two}
-use native.Mathlib.Omega.{arith}
-use lib.Pow.{pow_pos}
-use lib.ListN.{length, get_or, take, drop, set, length-map}
-use lib.Seq.{drop-set-lt}
-use lib.Bits.{bit_xor}
-use lib.Dec.{lit<}
-use borrow.Author.Tests.{ne_eqb}
+use Rattle.std.specs.Prelude.{ℕ, zero, suc, ◌+◌, ◌-◌, ◌^◌, ◌≤◌, ◌<◌, ◌≡◌, refl, ◌≢◌, Bool}
+use Rattle.std.specs.Prelude.{true, not, List, ◌∷◌, ◌++◌, map, length, get_or, take, drop, set, bit_xor}
+use Rattle.std.proofs.Common.{sym, ap, ap₂, ◌∙◌, arith, pow_pos, drop-set-lt, lit<, ne_eqb}
+use mathlib.Core.List.{Memᴰ}
+use Rattle.std.proofs.Math.Numerals.{add-two}
+use Rattle.std.proofs.lemmas.List.{length-map}
 use Rattle.basics.specs.Lists.{up_from, All, onto}
 use Rattle.basics.proofs.Tests.{by_equal}
 use Rattle.basics.proofs.All.{all_of, all_over, all_mapped}
@@ -125,15 +118,14 @@ module _ (n : ℕ) (gs : List Gate) (ones : ℕ) (ones_are : ones ≡ all_ones n
   -- level i + 1, whose state of all zeros is s
   pub backward_turn : (now : List ℕ) (i k s v : ℕ) → i < length gs → s ≡ forward gs (i + 1) 0 → k ≡ i + 1 → v ≡ backward gs k (bit_xor s ones)
       → now ≡ take (i + 2) (backward_set n gs) ++ drop (i + 2) old
-      → set now (i + 1 + 1) v ≡ take (i + 1 + 2) (backward_set n gs) ++ drop (i + 1 + 2) old
+      → set now (i + 2) v ≡ take (i + 1 + 2) (backward_set n gs) ++ drop (i + 1 + 2) old
   unfolding backward_input
   backward_turn now i k s v h here number back e =
       let many = backward-length n gs in
-      let at : i + 1 + 1 ≡ i + 2 = omega arith in
       let next : i + 1 + 2 ≡ i + 2 + 1 = omega arith in
       let input : v ≡ backward_input n gs (i + 1) =
       back ∙ ap₂ (backward gs) number (ap₂ bit_xor here ones_are ∙ inverse_code n (forward gs (i + 1) 0)) in
-      rw (next, at) (fill_turn (backward_set n gs) old now (i + 2) v (omega arith) (omega arith) e (input ∙ sym (backward_later n gs i h)))
+      rw next (fill_turn (backward_set n gs) old now (i + 2) v (omega arith) (omega arith) e (input ∙ sym (backward_later n gs i h)))
 
 -- after the last turn the whole set stands there
 pub backward_end : (n : ℕ) (gs : List Gate) (old now : List ℕ) (i : ℕ) → i ≡ length gs → now ≡ take (i + 2) (backward_set n gs) ++ drop (i + 2) old

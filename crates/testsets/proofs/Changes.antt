@@ -1,11 +1,6 @@
 -- Words that are changed one place after the other, each by its place and by what stood there.
-use Prim.Native.Nat.{ℕ, ◌+◌, ◌≤◌, ◌<◌}
-use mathlib.Core.Path.{◌≡◌, refl, ap, ◌∙◌}
-use mathlib.Core.List.{List}
-use native.Mathlib.Nat.{not-suc-le-zero, le_refl}
-use native.Mathlib.Omega.{arith}
-use lib.ListN.{length, get_or, set, length-set}
-use lib.Seq.{get_or-set_same, get_or-set_other}
+use Rattle.std.specs.Prelude.{ℕ, ◌+◌, ◌≤◌, ◌<◌, ◌≡◌, refl, List, length, get_or, set}
+use Rattle.std.proofs.Common.{ap, ◌∙◌, not-suc-le-zero, le_refl, arith, length-set, get_or-set_same, get_or-set_other}
 use Rattle.basics.proofs.Tests.{by_equal}
 
 -- the places below i are changed, and the others are not

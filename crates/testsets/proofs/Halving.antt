@@ -1,15 +1,7 @@
 -- Every stuck-at fault is caught by half of all vectors, so some vector catches half of any stuck-at faults, and the best one does.
-use Prim.Native.Nat.{ℕ, zero, suc, ◌+◌, ◌-◌, ◌*◌, ◌^◌, ◌≤◌, ◌<◌, zero-le}
-use mathlib.Core.Path.{◌≡◌, refl, sym, ap, ◌∙◌}
-use mathlib.Core.Bool.{Bool, not}
-use mathlib.Core.List.{List, [], ◌∷◌}
-use native.Mathlib.Nat.{le_refl, le_trans, mul-zero, le_of_lt}
-use native.Mathlib.Numerals.{add-one}
-use native.Mathlib.Omega.{arith}
-use lib.Pow.{pow_pos}
-use lib.ListN.{length}
-use lib.Dec.{eqb, ltb}
-use borrow.Author.Tests.{ltb-true, ltb-false, lt-ltb, le-ltb}
+use Rattle.std.specs.Prelude.{ℕ, zero, suc, ◌+◌, ◌-◌, ◌*◌, ◌^◌, ◌≤◌, ◌<◌, ◌≡◌, refl, Bool, not, List, [], ◌∷◌, length, eqb, ltb}
+use Rattle.std.proofs.Common.{zero-le, sym, ap, ◌∙◌, le_refl, le_trans, mul-zero, le_of_lt}
+use Rattle.std.proofs.Common.{add-one, arith, pow_pos, ltb-true, ltb-false, lt-ltb, le-ltb}
 use Rattle.basics.specs.Choice.{choice, count}
 use Rattle.basics.specs.Lists.{up_from, keep, All}
 use Rattle.basics.proofs.Tests.{by_test, choice-true, choice-false}

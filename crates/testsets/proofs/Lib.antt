@@ -10,5 +10,4 @@ pub mod PickTurns
 pub mod Multiple
 pub mod BackwardLaws
 pub mod RuleLaws
-pub mod AnswerLaws
 pub mod PickLaws

@@ -1,14 +1,8 @@
 -- Laws of the logarithm: 2 ^ log2 m ≤ m < 2 ^ (1 + log2 m).
-use Prim.Native.Nat.{ℕ, zero, suc, ◌+◌, ◌/◌, ◌^◌, ◌≤◌, ◌<◌}
-use mathlib.Core.Path.{◌≡◌, refl, ap, sym, ◌∙◌}
-use native.Mathlib.Nat.{le_refl, le_trans, le_of_lt}
-use native.Mathlib.Numerals.{add-one}
-use native.Mathlib.Omega.{arith}
-use lib.Arith.{half_le}
-use lib.Dec.{ltb}
-use borrow.Author.Tests.{ltb-true, ltb-false, lt-ltb, le-ltb}
-use Rattle.basics.proofs.Tests.{by_test, choice-true, choice-false}
-use Rattle.basics.specs.Choice.{choice}
+use Rattle.std.specs.Prelude.{ℕ, zero, suc, ◌*◌, ◌/◌, ◌^◌, ◌≤◌, ◌<◌, ◌≡◌, ltb}
+use Rattle.std.proofs.Common.{le_refl, le_trans, le_of_lt, le_antisymm, le_of_suc-le-suc, lt_of_not-le, pow_pos, pow_mono, arith, ltb-true, ltb-false}
+use Rattle.std.proofs.Math.Arith.{half_le}
+use Rattle.basics.proofs.Tests.{by_test}
 use Rattle.words.proofs.Bits.{lt_pow_self}
 use Rattle.testsets.specs.Log2.{log2_in, log2}
 
@@ -33,27 +27,12 @@ pub log2-le : (m : ℕ) → 1 ≤ m → 2 ^ log2 m ≤ m
 unfolding log2
 log2-le m h = log2_in-le m m h
 
--- ---- by halvings
-
--- more halvings than enough are the same
-log2_in-same : (k l m : ℕ) → m ≤ k → m ≤ l → log2_in k m ≡ log2_in l m
-unfolding log2_in
-log2_in-same zero zero m p q = refl
-log2_in-same zero (suc l) m p q = sym (choice-true (lt-ltb m 2 (omega arith)) 0 _)
-log2_in-same (suc k) zero m p q = choice-true (lt-ltb m 2 (omega arith)) 0 _
-log2_in-same (suc k) (suc l) m p q = ap (λ r. choice (ltb m 2) 0 (suc r)) (log2_in-same k l (m / 2) (half_le p) (half_le q))
-
-pub log2_small : (m : ℕ) → m < 2 → log2 m ≡ 0
-unfolding log2 log2_in
-log2_small zero h = refl
-log2_small (suc m) h = choice-true (lt-ltb (suc m) 2 h) 0 _
-
-pub log2_half : (m : ℕ) → 2 ≤ m → log2 m ≡ log2 (m / 2) + 1
-unfolding log2 log2_in
-log2_half zero h = absurd (omega arith)
-log2_half (suc m) h =
-    choice-false (le-ltb (suc m) 2 h) 0 _
-    ∙ ap suc (log2_in-same m (suc m / 2) (suc m / 2) (omega arith) (le_refl (suc m / 2))) ∙ sym (add-one (log2 (suc m / 2)))
+-- it is the only one whose powers stand so around m
+pub log2_is : (m k : ℕ) → 2 ^ k ≤ m → m < 2 * 2 ^ k → k ≡ log2 m
+log2_is m k low high =
+    le_antisymm
+    (le_of_suc-le-suc (lt_of_not-le (λ (above : suc (log2 m) ≤ k). omega (arith, pow_mono above, log2-lt m))))
+    (le_of_suc-le-suc (lt_of_not-le (λ (above : suc k ≤ log2 m). omega (arith, pow_mono above, log2-le m (omega (arith, pow_pos k))))))
 
 -- it is not above the number
 pub log2_le_self : (m : ℕ) → 1 ≤ m → log2 m ≤ m

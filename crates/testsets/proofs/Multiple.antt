@@ -1,16 +1,11 @@
 -- A set that catches every single stuck-at fault catches every multiple one: past its deepest level the circuit tells all
 -- states apart, and there one of its lines has a value that it should not have.
-use Prim.Native.Nat.{ℕ, ◌≤◌}
-use mathlib.Core.Path.{◌≡◌, refl, sym, ap, ◌∙◌, subst}
-use mathlib.Core.Logic.{◌≢◌, by_cases}
-use mathlib.Core.Bool.{true, false, false≢true}
-use mathlib.Core.List.{List, [], ◌∷◌, Memᴰ}
-use native.Mathlib.Nat.{zero-add, le_refl, not-suc-le-zero}
-use native.Mathlib.Decide.{dec_le}
-use native.Mathlib.Omega.{arith}
-use lib.ListN.{length, drop}
-use lib.Dec.{eqb}
-use borrow.Author.Tests.{eq-eqb, ne_eqb}
+use Rattle.std.specs.Prelude.{ℕ, ◌≤◌, ◌≡◌, refl, ◌≢◌, true, false, List, [], ◌∷◌, length, drop, eqb}
+use Rattle.std.proofs.Common.{sym, ap, ◌∙◌, subst, zero-add, le_refl, not-suc-le-zero, arith, eq-eqb, ne_eqb}
+use Rattle.std.proofs.Math.Logic.{by_cases}
+use Rattle.std.proofs.lemmas.Bool.{false≢true}
+use mathlib.Core.List.{Memᴰ}
+use Rattle.std.proofs.Math.Decide.{dec_le}
 use Rattle.basics.specs.Choice.{choice}
 use Rattle.basics.specs.Lists.{some, All}
 use Rattle.basics.proofs.Tests.{choice-true, not_eqb_iff, by_equal, and-true, or_neither}

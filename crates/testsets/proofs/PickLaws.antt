@@ -1,13 +1,7 @@
 -- The pick rule on a tie: every smaller input than the one that is picked catches fewer. That none catches more is `best_above` of `Halving`.
-use Prim.Native.Nat.{ℕ, zero, suc, ◌^◌, ◌≤◌, ◌<◌}
-use mathlib.Core.Path.{sym, subst}
-use mathlib.Core.Logic.{by_cases}
-use mathlib.Core.List.{List}
-use native.Mathlib.Nat.{not-suc-le-zero, le_refl}
-use native.Mathlib.Decide.{dec_le}
-use native.Mathlib.Omega.{arith}
-use lib.Dec.{ltb}
-use borrow.Author.Tests.{ltb-true, ltb-false}
+use Rattle.std.proofs.Common.{ℕ, zero, suc, ◌^◌, ◌≤◌, ◌<◌, sym, subst, List, not-suc-le-zero, le_refl, arith, ltb, ltb-true, ltb-false}
+use Rattle.std.proofs.Math.Logic.{by_cases}
+use Rattle.std.proofs.Math.Decide.{dec_le}
 use Rattle.basics.specs.Lists.{up_from}
 use Rattle.basics.proofs.Tests.{by_test, by_equal, choice-true, choice-false}
 use Rattle.circuit.specs.declared.Gate.{Gate}

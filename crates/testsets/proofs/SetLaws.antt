@@ -1,10 +1,6 @@
 -- Laws of fault lists and sets: the stuck-at faults of a circuit, what a set leaves uncaught of a list, when a set is complete.
-use Prim.Native.Nat.{ℕ, ◌+◌, ◌≤◌}
-use mathlib.Core.Path.{◌≡◌, refl, sym, ap, ◌∙◌}
-use mathlib.Core.Logic.{◌↔◌}
-use mathlib.Core.Bool.{Bool, true, false, not, ◌&&◌, ◌||◌, or-false, not-not}
-use mathlib.Core.List.{List, [], ◌∷◌}
-use lib.ListN.{length}
+use Rattle.std.proofs.Common.{ℕ, ◌+◌, ◌≤◌, ◌≡◌, refl, sym, ap, ◌∙◌, ◌↔◌, Bool, true, false, not, ◌&&◌, ◌||◌, List, [], ◌∷◌, length}
+use Rattle.std.proofs.Math.Bool.{or-false, not-not}
 use Rattle.basics.specs.Choice.{count}
 use Rattle.basics.specs.Lists.{keep, some, All}
 use Rattle.basics.proofs.Lists.{length-keep, keep-parts, keep-le, keep-cong, keep-keep, all_keep, keep_none, none_kept}

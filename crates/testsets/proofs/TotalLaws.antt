@@ -1,13 +1,10 @@
 -- Sums over all words of n lines, and that no gate and no run of gates changes such a sum.
-use Prim.Native.Nat.{ℕ, zero, suc, ◌+◌, ◌*◌, ◌^◌, ◌≤◌, ◌<◌}
-use mathlib.Core.Path.{◌≡◌, refl, sym, ap, ap₂, ◌∙◌, fun_ext}
-use mathlib.Core.Logic.{by_cases}
-use mathlib.Core.List.{List, [], ◌∷◌}
-use native.Mathlib.Nat.{add_comm, pow-suc, le_of_suc-le-suc, not-suc-le-zero, one-mul, mul_assoc, two-mul, zero-lt-suc}
-use native.Mathlib.Decide.{dec_le}
-use native.Mathlib.Omega.{arith}
-use lib.ListN.{take}
-use lib.Dec.{lit<}
+use Rattle.std.specs.Prelude.{ℕ, zero, suc, ◌+◌, ◌*◌, ◌^◌, ◌≤◌, ◌<◌, ◌≡◌, refl, List, [], ◌∷◌, take}
+use Rattle.std.proofs.Common.{sym, ap, ap₂, ◌∙◌, add_comm, pow-suc, le_of_suc-le-suc}
+use Rattle.std.proofs.Common.{not-suc-le-zero, one-mul, mul_assoc, two-mul, zero-lt-suc, arith, lit<}
+use Rattle.std.proofs.Math.Path.{fun_ext}
+use Rattle.std.proofs.Math.Logic.{by_cases}
+use Rattle.std.proofs.Math.Decide.{dec_le}
 use Rattle.basics.proofs.Tests.{by_test}
 use Rattle.basics.proofs.All.{all_take}
 use Rattle.words.specs.Word.{flip}

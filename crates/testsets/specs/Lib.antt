@@ -2,6 +2,6 @@ pub mod Limits
 pub mod Log2
 pub mod Sets
 pub mod Left
+pub mod FaultsLeft
 pub mod Rules
 pub mod Promises
-pub mod Answers

@@ -2,10 +2,10 @@
 #![tactic(auto)]
 
 ghost use Rattle.std.specs.Prelude.{◌≡◌};
+ghost use Rattle.refusals.specs.Answers.{told_word};
 ghost use Rattle.testsets.specs.Promises.{backward_set_tells, backward_set_leaves, compact_set_tells, compact_set_leaves};
-ghost use Rattle.testsets.specs.Answers.{told_made};
 
-use refusals::{Checked, Refusal};
+use refusals::Refusal;
 
 mod backward;
 mod compact;
@@ -13,31 +13,22 @@ mod left;
 mod limits;
 mod rules;
 
-// What the making of a set answers: how many vectors stand in the room.
-#[derive(Clone, Copy)]
-pub enum Made {
-    Count(u32),
-    Refused(Refusal),
-}
-
-// All zeros, all ones, and for each level the vector that gives there the inverse of what all zeros give.
-pub fn backward_set(lines: u32, gates: &[u32], room: &mut [u32]) -> Made
-    ensures { (told_made result ≡ backward_set_tells lines gates.now room.old)
+// All zeros, all ones, and for each level the vector that gives there the inverse of what all zeros give; how many vectors stand in the room.
+#[tactic(auto, using(refusals::proofs::Tables::calls, crate::proofs::RuleLaws::backward_ok))]
+pub fn backward_set(lines: u32, gates: &[u32], room: &mut [u32]) -> Result<u32, Refusal>
+    ensures { (told_word result ≡ backward_set_tells lines gates.now room.old)
         × (room.new ≡ backward_set_leaves lines gates.now room.old) }
 {
-    match rules::check_backward(lines, gates, room.len()) {
-        Checked::Wrong(refusal) => Made::Refused(refusal),
-        Checked::Fine => Made::Count(backward::make(lines, gates, room)),
-    }
+    let circuit = rules::check_backward(lines, gates, room.len())?;
+    Ok(backward::make(&circuit, room))
 }
 
-// The input that catches the most, then the one that catches the most of what is left, and so on.
-pub fn compact_set(lines: u32, gates: &[u32], room: &mut [u32]) -> Made
-    ensures { (told_made result ≡ compact_set_tells lines gates.now room.old)
+// The input that catches the most, then the one that catches the most of what is left, and so on; how many vectors stand in the room.
+#[tactic(auto, using(refusals::proofs::Tables::calls, crate::proofs::RuleLaws::compact_ok))]
+pub fn compact_set(lines: u32, gates: &[u32], room: &mut [u32]) -> Result<u32, Refusal>
+    ensures { (told_word result ≡ compact_set_tells lines gates.now room.old)
         × (room.new ≡ compact_set_leaves lines gates.now room.old) }
 {
-    match rules::check_compact(lines, gates, room.len()) {
-        Checked::Wrong(refusal) => Made::Refused(refusal),
-        Checked::Fine => Made::Count(compact::make(lines, gates, room)),
-    }
+    let circuit = rules::check_compact(lines, gates, room.len())?;
+    Ok(compact::make(&circuit, room))
 }

@@ -1,12 +1,16 @@
 -- Laws of a test that every entry passes.
-use Prim.Native.Nat.{ℕ, suc, ◌+◌, ◌-◌, ◌<◌, ◌≤◌}
-use mathlib.Core.Path.{◌≡◌, refl}
+use Prim.Native.Nat.{ℕ, ◌≤◌}
+use mathlib.Core.Path.{◌≡◌, refl, ◌∙◌}
 use mathlib.Core.Bool.{Bool, true, false}
 use mathlib.Core.List.{List, [], ◌∷◌, ◌++◌}
 use native.Mathlib.Omega.{arith}
-use native.Mathlib.Numerals.{add-one}
-use lib.ListN.{length, take, drop, get_or, length-drop, drop_of_length-le}
-use lib.Seq.{take-suc, drop-cons, get_or-drop}
+use lib.ListN.{length, get_or}
+use Rattle.std.proofs.Common.{Option, MatchOption}
+use Rattle.std.specs.Fn.{Mut, Called}
+use Rattle.std.specs.Iterator.{YieldsThen}
+use Rattle.std.specs.List.{list_all, FoldsTo}
+use Rattle.std.proofs.lemmas.Iterator.{YieldsList}
+use Rattle.std.proofs.lemmas.Iterator.Search.{all_from_yields_List}
 use Rattle.basics.proofs.Tests.{and_both, and-true}
 use Rattle.text.specs.Texts.{every, begins}
 
@@ -28,38 +32,23 @@ module _ {ℓ} {A : Type ℓ} (p : A → Bool) where
   unfolding every
   every_failed x xs e = rw e
 
--- one byte more of a part
-pub part-more : (text : List ℕ) (at i : ℕ) → at ≤ i → i < length text
-    → take (i + 1 - at) (drop at text) ≡ take (i - at) (drop at text) ++ (get_or text i 0 ∷ [])
-part-more text at i h k =
-    let e : i + 1 - at ≡ suc (i - at) = omega arith in
-    let f : at + (i - at) ≡ i = omega arith in
-    rw (e, take-suc (drop at text) (i - at) 0 (rw (length-drop at text) (omega arith)), get_or-drop at text (i - at) 0, f)
-
-pub every_more : (p : ℕ → Bool) (text : List ℕ) (at i : ℕ) → at ≤ i → i < length text
-    → every p (take (i - at) (drop at text)) ≡ true → p (get_or text i 0) ≡ true → every p (take (i + 1 - at) (drop at text)) ≡ true
-unfolding every
-every_more p text at i h k a b = rw (part-more text at i h k) (every_append p (take (i - at) (drop at text)) (get_or text i 0 ∷ []) a (and-true b refl))
-
-pub every_none : (p : ℕ → Bool) (text : List ℕ) (at : ℕ) → every p (take (at - at) (drop at text)) ≡ true
-unfolding every
-every_none p text at = let e : at - at ≡ 0 = omega arith in rw e
-
--- from a place on: a byte that passes, one that does not, none; and the first byte
-module _ (p : ℕ → Bool) (t : List ℕ) (i : ℕ) where
-  pub all_passed : i < length t → p (get_or t i 0) ≡ true → every p (drop i t) ≡ every p (drop (i + 1) t)
-  unfolding every
-  all_passed h e = rw (drop-cons t i 0 h, e, add-one i)
-
-  pub all_failed : i < length t → p (get_or t i 0) ≡ false → every p (drop i t) ≡ false
-  unfolding every
-  all_failed h e = rw (drop-cons t i 0 h, e)
-
-  pub all_ended : length t ≤ i → every p (drop i t) ≡ true
-  unfolding every
-  all_ended h = rw (drop_of_length-le t {i = i} h)
-
 pub begins-first : (p : ℕ → Bool) (t : List ℕ) → 1 ≤ length t → begins p t ≡ p (get_or t 0 0)
 unfolding begins
 begins-first p [] h = absurd (omega arith)
 begins-first p (b ∷ t) h = refl
+
+-- ---- what the library's `all` tells
+
+pub every_is_all : {A : Type 0} (p : A → Bool) (xs : List A) → list_all p xs ≡ every p xs
+unfolding every
+every_is_all p [] = refl
+every_is_all p (x ∷ xs) = rw (every_is_all p xs)
+
+-- `all_from_yields_List`, for a clause that says `every`
+pub every_from_all : {S A B F : Type 0} {steps : S → Option A → S → Type 0} {v : A → B} {g : Mut F (A × Unit {0}) Bool} {s : S} {xs : List B}
+    → (test : B → Bool) (u : S) (f : F) (told : Bool)
+    → (ys : List A) × (o : Option A) × (j : F) × YieldsThen steps s ys o u × FoldsTo (λ p x q. Called g p (x, tt) true q) f ys j
+    × MatchOption o (told ≡ true) (λ x. (told ≡ false) × ((h : F) × Called g j (x, tt) false h))
+    → YieldsList steps v s xs → ((x : A) (b : Bool) (q : F) → Called g f (x, tt) b q → (q ≡ f) × (b ≡ test (v x)))
+    → told ≡ every test xs
+every_from_all {xs = xs} test u f told ran road asked = all_from_yields_List test u f told ran road asked ∙ every_is_all test xs

@@ -1,14 +1,13 @@
 -- Laws of texts compared.
-use Prim.Native.Nat.{ℕ, suc, ◌+◌, ◌<◌, ◌≤◌}
+use Prim.Native.Nat.{ℕ, suc}
 use mathlib.Core.Path.{◌≡◌, refl, sym, ap, ap₂, ◌∙◌}
-use mathlib.Core.Bool.{true, false, false≢true}
+use mathlib.Core.Bool.{Bool, true, false, false≢true}
 use mathlib.Core.List.{List, [], ◌∷◌}
 use native.Mathlib.Omega.{arith}
-use native.Mathlib.Numerals.{add-one}
-use lib.ListN.{length, drop, get_or, drop_of_length-le}
-use lib.Seq.{drop-cons}
+use lib.ListN.{length}
 use lib.Dec.{eqb}
-use borrow.Author.Tests.{eq-eqb, ne_eqb, eqb-true}
+use borrow.Author.Tests.{eq-eqb, eqb-true}
+use lib.Pointwise.{pointwise}
 use Rattle.basics.specs.Lists.{some}
 use Rattle.basics.proofs.Tests.{by_test, and_both, and-true, and_right, or_left, or_right, or-false, choice-true, choice-false}
 use Rattle.text.specs.Texts.{same, among, place}
@@ -32,20 +31,6 @@ same_lengths [] [] d = absurd (d refl)
 same_lengths [] (c ∷ u) d = refl
 same_lengths (b ∷ t) [] d = refl
 same_lengths (b ∷ t) (c ∷ u) d = and_right (eqb b c) (same_lengths t u (λ e. d (ap suc e)))
-
--- from a place on: the same byte, another, none
-module _ (a b : List ℕ) (i : ℕ) where
-  pub same_more : i < length a → i < length b → get_or a i 0 ≡ get_or b i 0 → same (drop i a) (drop i b) ≡ same (drop (i + 1) a) (drop (i + 1) b)
-  unfolding same
-  same_more h k e = rw (drop-cons a i 0 h, drop-cons b i 0 k, eq-eqb (get_or a i 0) (get_or b i 0) e, add-one i)
-
-  pub same_other : i < length a → i < length b → (get_or a i 0 ≡ get_or b i 0 → ⊥) → same (drop i a) (drop i b) ≡ false
-  unfolding same
-  same_other h k d = rw (drop-cons a i 0 h, drop-cons b i 0 k, ne_eqb (get_or a i 0) (get_or b i 0) d)
-
-  pub same_end : length a ≤ i → length b ≤ i → same (drop i a) (drop i b) ≡ true
-  unfolding same
-  same_end h k = rw (drop_of_length-le a {i = i} h, drop_of_length-le b {i = i} k)
 
 -- the place among some texts
 pub place_found : (u : List ℕ) (us : List (List ℕ)) (t : List ℕ) → same u t ≡ true → place (u ∷ us) t ≡ 0
@@ -81,3 +66,14 @@ among_nowhere [] t e = refl
 among_nowhere (u ∷ us) t e = by_test (same u t)
     (λ g. let w = place_found u us t g in absurd (omega arith))
     (λ g. let w = place_passed u us t g in or-false (same_other_way u t g) (among_nowhere us t (omega arith)))
+
+-- ---- what `==` of the library tells: entry by entry the same
+pub same_is_pointwise : (t u : List ℕ) → pointwise eqb t u ≡ same t u
+unfolding same
+same_is_pointwise [] [] = refl
+same_is_pointwise [] (c ∷ u) = refl
+same_is_pointwise (b ∷ t) [] = refl
+same_is_pointwise (b ∷ t) (c ∷ u) = rw (same_is_pointwise t u)
+
+pub same_told : (t u : List ℕ) (told : Bool) → told ≡ pointwise eqb t u → told ≡ same t u
+same_told t u told e = e ∙ same_is_pointwise t u

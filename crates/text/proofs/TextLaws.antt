@@ -1,17 +1,14 @@
 -- Laws of text as bytes: what code puts, byte by byte, is the number in decimal or the bytes lent.
 use Prim.Native.Nat.{ℕ, zero, suc, ◌+◌, ◌/◌, ◌%◌, ◌^◌, ◌<◌, ◌≤◌}
-use mathlib.Core.Path.{◌≡◌, refl, ap, sym}
-use mathlib.Core.List.{List, [], ◌∷◌, ◌++◌}
-use native.Mathlib.Numerals.{add-one}
+use mathlib.Core.Path.{◌≡◌, ap}
+use mathlib.Core.List.{[], ◌∷◌, ◌++◌}
 use native.Mathlib.Omega.{arith}
 use native.Mathlib.Nat.{pow-suc}
-use lib.ListN.{length, drop, set, get_or, length-append, drop_of_length-le}
-use lib.Seq.{drop-cons, sets}
+use lib.ListN.{length, length-append}
 use lib.Dec.{ltb}
 use borrow.Author.Tests.{lt-ltb, le-ltb, ltb-true, ltb-false}
 use Rattle.basics.specs.Choice.{choice}
 use Rattle.basics.proofs.Tests.{by_test}
-use Rattle.basics.proofs.PutLaws.{sets-append}
 use Rattle.text.specs.Decimal.{digit, decimal_in, decimal}
 
 -- ---- numbers
@@ -59,39 +56,6 @@ digits_most (suc places) x p h = by_test (ltb x 10)
     some zero t h = absurd (omega (arith, pow-suc 10 0))
     some (suc places) t h = omega arith
 
--- ---- what is put, byte by byte
-
--- equal texts have equal room, and are put alike
-pub room_as : (at room : ℕ) {t u : List ℕ} → t ≡ u → at + length u ≤ room → at + length t ≤ room
-room_as at room same h = rw same h
-
-pub put_as : (at end : ℕ) (out last : List ℕ) {t u : List ℕ} → t ≡ u
-    → (end ≡ at + length t) × (last ≡ sets out at t) → (end ≡ at + length u) × (last ≡ sets out at u)
-put_as at end out last same h = rw (← same) h
-
-pub put_small : (out : List ℕ) (at x : ℕ) → x < 10 → (at + 1 ≡ at + length (decimal x)) × (set out at (48 + x) ≡ sets out at (decimal x))
-unfolding digit
-put_small out at x h = rw (decimal_small x h) (refl, refl)
-
-pub put_last : (out : List ℕ) (at last x : ℕ) → 10 ≤ x → last ≡ at + length (decimal (x / 10))
-    → (last + 1 ≡ at + length (decimal x)) × (set (sets out at (decimal (x / 10))) last (48 + x % 10) ≡ sets out at (decimal x))
-unfolding digit
-put_last out at last x h e =
-    rw (decimal-more x h, length-append (decimal (x / 10)) ((48 + x % 10) ∷ []))
-    (omega arith, sets-append out at last (decimal (x / 10)) ((48 + x % 10) ∷ []) (sym e))
-
 -- the digits before the last leave room for it
 pub room_more : (x : ℕ) → 10 ≤ x → length (decimal x) ≡ length (decimal (x / 10)) + 1
 room_more x h = rw (decimal-more x h, length-append (decimal (x / 10)) (digit (x % 10) ∷ []))
-
--- ---- bytes as they are, one a turn
-
-pub put_start : (out bytes : List ℕ) (at : ℕ) → sets out (at + 0) (drop 0 bytes) ≡ sets out at bytes
-put_start out bytes at = let e : at + 0 ≡ at = omega arith in rw e
-
-pub put_turn : (out bytes : List ℕ) (at i : ℕ) → i < length bytes
-    → sets (set out (at + i) (get_or bytes i 0)) (at + (i + 1)) (drop (i + 1) bytes) ≡ sets out (at + i) (drop i bytes)
-put_turn out bytes at i h = let e : at + (i + 1) ≡ suc (at + i) = omega arith in rw (e, drop-cons bytes i 0 h, add-one i)
-
-pub put_end : (out bytes : List ℕ) (at i : ℕ) → length bytes ≤ i → sets out (at + i) (drop i bytes) ≡ out
-put_end out bytes at i h = rw (drop_of_length-le bytes {i = i} h)

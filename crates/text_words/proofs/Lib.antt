@@ -3,4 +3,4 @@ pub mod LineLaws
 pub mod RunLaws
 pub mod DigitLaws
 pub mod PlaceLaws
-pub mod PartLaws
+pub mod WordsLaws

@@ -1,21 +1,23 @@
 -- Laws of places among texts: texts are distinct where each stands at its own place.
 use Prim.Native.Nat.{ℕ, zero, suc, ◌+◌, ◌<◌, ◌≤◌}
 use mathlib.Core.Path.{◌≡◌, refl, sym, ap, ◌∙◌}
-use mathlib.Core.Bool.{true, false, not, ◌&&◌}
+use mathlib.Core.Bool.{Bool, true, false, not, ◌&&◌}
 use mathlib.Core.List.{List, [], ◌∷◌}
 use native.Mathlib.Omega.{arith}
-use native.Mathlib.Numerals.{add-one}
-use lib.ListN.{length, take, drop, get_or}
-use lib.Seq.{drop-cons, length-take-le, get_or-take}
-use mathlib.Core.Logic.{by_cases}
-use native.Mathlib.Decide.{dec_lt}
+use lib.ListN.{length, take, get_or}
+use lib.Seq.{length-take-le, get_or-take}
+use lib.Dec.{eqb}
+use lib.Pointwise.{pointwise}
+use Rattle.std.proofs.Common.{Option, Some, None, nat_lt, MatchBool}
+use Rattle.std.specs.List.{position, position_or_len, enumerate_from, AllWithin, HoldsAt}
+use Rattle.std.proofs.lemmas.Bool.{ltb-true, ltb-false, eqb-true, eqb-false, false≢true}
+use Rattle.std.specs.Option.{option_eq}
+use Rattle.std.proofs.lemmas.List.FromFn.{length-enumerate_from, get_or-enumerate_from}
 use Rattle.basics.specs.Lists.{some}
 use Rattle.basics.proofs.Tests.{by_test, and-true, and_right, or-false, or_left, or_right}
 use Rattle.text.specs.Texts.{same, among, distinct, place}
-use Rattle.text_words.specs.Words.{words_of}
-use Rattle.text_words.specs.Runs.{part, WordAt}
-use Rattle.text_words.proofs.RunLaws.{words_none, words-some}
-use Rattle.text.proofs.SameLaws.{same_refl, place_found, place_passed, place_none}
+use Rattle.text_words.specs.Runs.{IsPlace}
+use Rattle.text.proofs.SameLaws.{same_refl, same_is_pointwise, place_found, place_passed, place_none}
 
 -- a text of the list is found at its place or before
 pub place-le : (us : List (List ℕ)) (i : ℕ) → i < length us → place us (get_or us i []) ≤ i
@@ -83,19 +85,57 @@ module _ (k : ℕ) (us : List (List ℕ)) (fits : k ≤ length us) where
   firsts_twice i h d = let e = length-take-le k us fits in
       distinct-false (take k us) i (omega arith) (λ z. d (sym (at_first i h) ∙ z))
 
--- where so many words were passed the next one is the next of the line's
-pub record Listed (line : List ℕ) (k from to : ℕ) : Type 0 where
-  pub some : from < to
-  pub word : part line from to ≡ get_or (words_of line) k []
-  pub rest : words_of (drop to line) ≡ drop (k + 1) (words_of line)
+-- the first word that is equal is the first that is the same
+place_is : (t : List ℕ) (us : List (List ℕ)) → place us t ≡ position_or_len (λ u. pointwise eqb u t) us
+place_is t [] = place_none t
+place_is t (u ∷ us) = by_test (pointwise eqb u t)
+    (λ e. place_found u us t (sym (same_is_pointwise u t) ∙ e) ∙ rw e)
+    (λ e. place_passed u us t (sym (same_is_pointwise u t) ∙ e) ∙ rw e (rw (place_is t us) (omega arith)))
 
-pub listed : (line : List ℕ) (at from to k : ℕ) → WordAt line at from to → words_of (drop at line) ≡ drop k (words_of line) → k < length (words_of line)
-    → Listed line k from to
-listed line at from to k w e h =
-    let d : from ≡ to → ⊥ = λ z. no_cons (sym (words_none line at from to w z) ∙ e ∙ drop-cons (words_of line) k [] h) in
-    let f : part line from to ∷ words_of (drop to line) ≡ get_or (words_of line) k [] ∷ drop (suc k) (words_of line) =
-    sym (words-some line at from to w d) ∙ e ∙ drop-cons (words_of line) k [] h in
-    record { some = let o = w.order in by_cases (dec_lt from to) (λ y. y) (λ n. absurd (d (omega arith))); word = cc; rest = rw (add-one k) (cc) }
-  where
-    no_cons : {x : List ℕ} {xs : List (List ℕ)} → ◌≡◌ {A = List (List ℕ)} [] (x ∷ xs) → ⊥
-    no_cons e = let z : ◌≡◌ {A = ℕ} 0 1 = cc in omega arith
+pub placed : (us : List (List ℕ)) (t : List ℕ) (found : Option ℕ) → found ≡ position (λ u. pointwise eqb u t) us → IsPlace us t found
+placed us t found f =
+    let e = place_is t us in
+    let most = place-most us t in
+    by_test (nat_lt (position_or_len (λ u. pointwise eqb u t) us) (length us))
+    (λ g. rw (f, g) (sym e, ltb-true _ _ g))
+    (λ g. let past = ltb-false _ _ g in rw (f, g) (omega arith))
+
+-- a word stands first at its own place, as far as the words go
+module _ (us : List (List ℕ)) (t : List ℕ) where
+  pub at_place : (found : Option ℕ) (i : ℕ) → IsPlace us t found → option_eq eqb found (Some i) ≡ true → place us t ≡ i
+  at_place None i h e = absurd (false≢true e)
+  at_place (Some j) i h e = sym h.0 ∙ eqb-true j i e
+
+  pub at_other : (found : Option ℕ) (i : ℕ) → IsPlace us t found → option_eq eqb found (Some i) ≡ false → i < length us → place us t ≡ i → ⊥
+  at_other None i h e l g = omega arith
+  at_other (Some j) i h e l g = eqb-false j i e (h.0 ∙ g)
+
+abbrev pub Yes : List (List ℕ) → ℕ × List ℕ → Type 0
+Yes us p = place us p.1 ≡ p.0
+
+abbrev pub No : List (List ℕ) → ℕ × List ℕ → Type 0
+No us p = p.0 < length us → place us p.1 ≡ p.0 → ⊥
+
+-- what `all` tells of the first k, each beside its number
+pub all_distinct : (k : ℕ) (us : List (List ℕ)) → k ≤ length us → (told : Bool)
+    → MatchBool told (AllWithin (Yes us) (enumerate_from 0 (take k us)) 0 (length (enumerate_from 0 (take k us))))
+    ((i : ℕ) × (i < length (enumerate_from 0 (take k us))) × HoldsAt (No us) (enumerate_from 0 (take k us)) i)
+    → told ≡ distinct (take k us)
+all_distinct k us fits true h = sym (firsts_distinct k us fits (λ i l.
+    let long = length-take-le k us fits in
+    let many = length-enumerate_from 0 (take k us) in
+    let e = h i (0, []) (omega arith) (omega arith) in
+    let f = get_or-enumerate_from 0 (take k us) i (0, []) (omega arith) in
+    let g = get_or-take k us i [] l in
+    let y : place us (get_or us i []) ≡ 0 + i = rw (f, g) at e in
+    omega arith))
+all_distinct k us fits false h =
+    let i = h.0 in
+    let long = length-take-le k us fits in
+    let many = length-enumerate_from 0 (take k us) in
+    let l : i < k = let m = h.1 in omega arith in
+    let f = get_or-enumerate_from 0 (take k us) i (0, []) (omega arith) in
+    let g = get_or-take k us i [] l in
+    let n = h.2 (0, []) in
+    let y : 0 + i < length us → place us (get_or us i []) ≡ 0 + i → ⊥ = rw (f, g) at n in
+    sym (firsts_twice k us fits i l (λ z. y (omega arith) (omega arith)))

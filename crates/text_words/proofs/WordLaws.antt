@@ -10,15 +10,15 @@ use Rattle.text_words.specs.Words.{in_front, is_blank, word_ends, words_of}
 use Rattle.text_words.specs.Runs.{is_ink}
 
 -- one byte: a blank, the last of a word, another of a word
-blank_passed : (b : ℕ) (rest : List ℕ) → is_blank b ≡ true → words_of (b ∷ rest) ≡ words_of rest
+pub blank_passed : (b : ℕ) (rest : List ℕ) → is_blank b ≡ true → words_of (b ∷ rest) ≡ words_of rest
 unfolding words_of
 blank_passed b rest h = choice-true h _ _
 
-word_closed : (b : ℕ) (rest : List ℕ) → is_blank b ≡ false → word_ends rest ≡ true → words_of (b ∷ rest) ≡ (b ∷ []) ∷ words_of rest
+pub word_closed : (b : ℕ) (rest : List ℕ) → is_blank b ≡ false → word_ends rest ≡ true → words_of (b ∷ rest) ≡ (b ∷ []) ∷ words_of rest
 unfolding words_of
 word_closed b rest h e = choice-false h _ _ ∙ choice-true e _ _
 
-word_on : (b : ℕ) (rest : List ℕ) → is_blank b ≡ false → word_ends rest ≡ false → words_of (b ∷ rest) ≡ in_front b (words_of rest)
+pub word_on : (b : ℕ) (rest : List ℕ) → is_blank b ≡ false → word_ends rest ≡ false → words_of (b ∷ rest) ≡ in_front b (words_of rest)
 unfolding words_of
 word_on b rest h e = choice-false h _ _ ∙ choice-false e _ _
 

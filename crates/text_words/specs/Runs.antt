@@ -1,7 +1,6 @@
--- Where runs of bytes, lines and words stand in a text.
-use Rattle.std.specs.Prelude.{ℕ, ◌-◌, ◌<◌, ◌≤◌, ◌≡◌, Bool, true, false, not, List, [], ◌∷◌, length, take, drop, get_or, eqb}
-use Rattle.basics.specs.Choice.{choice}
-use Rattle.text.specs.Texts.{every}
+-- The first line of a text, the first word of a line, and the place of a text among some.
+use Rattle.std.specs.Prelude.{ℕ, ◌+◌, ◌-◌, ◌<◌, ◌≤◌, ◌≡◌, Bool, not, Option, MatchOption, List, ◌∷◌, ◌++◌, length, take, drop, eqb}
+use Rattle.text.specs.Texts.{place}
 use Rattle.text_words.specs.Words.{lines_of, is_blank, words_of}
 
 -- no LF; no blank
@@ -11,31 +10,21 @@ in_line b = not (eqb b 10)
 abbrev pub is_ink : ℕ → Bool
 is_ink b = not (is_blank b)
 
--- the bytes from a place up to another
-abbrev pub part : List ℕ → ℕ → ℕ → List ℕ
-part text from to = take (to - from) (drop from text)
+-- a text's first line, without its end, and what follows it: the line starts the text, and what follows is the end of the text
+pub record IsFirstLine (text line rest : List ℕ) : Type 0 where
+  pub split : lines_of text ≡ line ∷ lines_of rest
+  pub within : length line + length rest ≤ length text
+  pub shorter : length rest < length text
+  pub starts : line ≡ take (length line) text
+  pub ends : rest ≡ drop (length text - length rest) text
 
--- the run of bytes of one kind from a place on ends here
-pub record RunTo (p : ℕ → Bool) (text : List ℕ) (at end : ℕ) : Type 0 where
-  pub start : at ≤ end
-  pub fits : end ≤ length text
-  pub all : every p (part text at end) ≡ true
-  pub stop : end < length text → p (get_or text end 0) ≡ false
+-- a line's first word, and what follows it: the two, one after the other, are the end of the line
+pub record IsFirstWord (line word rest : List ℕ) : Type 0 where
+  pub split : words_of line ≡ word ∷ words_of rest
+  pub some : 1 ≤ length word
+  pub within : length word + length rest ≤ length line
+  pub ends : word ++ rest ≡ drop (length line - (length word + length rest)) line
 
--- the line that starts at a place, and where the next one starts
-pub record LineAt (text : List ℕ) (at to next : ℕ) : Type 0 where
-  pub start : at ≤ to
-  pub order : to ≤ next
-  pub more : at < next
-  pub fits : next ≤ length text
-  pub split : lines_of (drop at text) ≡ part text at to ∷ lines_of (drop next text)
-
--- the words from a place on: none where the two are the same, and else the word between them and those after it
-unfoldable pub words_by : List ℕ → ℕ → ℕ → List (List ℕ)
-words_by line from to = choice (eqb from to) [] (part line from to ∷ words_of (drop to line))
-
-pub record WordAt (line : List ℕ) (at from to : ℕ) : Type 0 where
-  pub start : at ≤ from
-  pub order : from ≤ to
-  pub fits : to ≤ length line
-  pub split : words_of (drop at line) ≡ words_by line from to
+-- the place of the first of some texts that is the same as a text, or none
+abbrev pub IsPlace : List (List ℕ) → List ℕ → Option ℕ → Type 0
+IsPlace texts t found = MatchOption found (place texts t ≡ length texts) (λ i. (i ≡ place texts t) × (i < length texts))

@@ -1,4 +1,4 @@
-// A text as its lines, and a line as its words: where they stand, and which are the same. Nothing is stored, and no number is cut.
+// A text as its lines, and a line as its words: one after the other, and which are the same. Nothing is stored, and no number is cut.
 #![tactic(auto)]
 
 pub mod runs;

@@ -1,124 +1,85 @@
-// Runs of bytes of one kind, and the lines and words that they make.
-ghost use Rattle.std.specs.Prelude.{◌≡◌, ◌≤◌, ◌<◌, length};
-ghost use Rattle.text_words.specs.Words.{is_blank, words_of};
-ghost use Rattle.text_words.specs.Runs.{in_line, is_ink, RunTo, LineAt, WordAt};
+// The lines of a text and the words of a line, one after the other: each with what follows it.
+ghost use Rattle.std.specs.Prelude.{◌≡◌, ◌≢◌, ◌≤◌, length, [], ◌∷◌, MatchOption};
+ghost use Rattle.std.specs.Iterator.{YieldsFirstRef, item_count};
+ghost use Rattle.text_words.specs.Words.{is_blank, lines_of, words_of};
+ghost use Rattle.text_words.specs.Runs.{IsFirstLine, IsFirstWord};
 
-// Where a line ends, and where the next one starts.
-#[derive(Clone, Copy)]
-pub struct Line {
-    pub to: usize,
-    pub next: usize,
+// The words of a line that are still to come.
+#[derive(Drop)]
+pub struct Words<'a> {
+    pub rest: &'a [u8],
 }
 
-// Where a word stands. There is none where both are the same.
-#[derive(Clone, Copy)]
-pub struct Span {
-    pub from: usize,
-    pub to: usize,
-}
-
+#[tactic(auto, unfolding(crate::specs::Words::is_blank))]
 pub fn is_blank(b: u8) -> bool
     ensures { result ≡ is_blank b }
 {
     b == b' ' || b == b'\t'
 }
 
-// The first LF from a place on, or the end.
-fn line_feed(text: &[u8], at: usize) -> usize
-    requires { at ≤ length text.now }
-    ensures { RunTo in_line text.now at result }
+// The first line of a text, without its end, and what follows it.
+pub fn next_line(text: &[u8]) -> Option<(&[u8], &[u8])>
+    ensures { MatchOption result (lines_of text.now ≡ []) (λ found. IsFirstLine text.now found.0.now found.1.now) }
 {
-    let mut i = at;
-    while i < text.len() {
-        if text[i] == b'\n' {
-            return i;
-        }
-        i += 1;
+    if text.is_empty() {
+        return None;
     }
-    i
+    let Some(end) = text.iter().position(|b| *b == b'\n') else {
+        return Some((text, &[]));
+    };
+    let line = &text[..end];
+    Some((line.strip_suffix(b"\r").unwrap_or(line), &text[end + 1..]))
 }
 
-// The first byte from a place on that is no blank, or the end.
-fn past_blanks(text: &[u8], at: usize) -> usize
-    requires { at ≤ length text.now }
-    ensures { RunTo is_blank text.now at result }
+// The first word of a line, and what follows it.
+pub fn next_word(line: &[u8]) -> Option<(&[u8], &[u8])>
+    ensures { MatchOption result (words_of line.now ≡ []) (λ found. IsFirstWord line.now found.0.now found.1.now) }
 {
-    let mut i = at;
-    while i < text.len() {
-        if !is_blank(text[i]) {
-            return i;
-        }
-        i += 1;
-    }
-    i
+    let from = line.iter().position(|b| !is_blank(*b))?;
+    let ink = &line[from..];
+    let end = ink.iter().position(|b| is_blank(*b)).unwrap_or(ink.len());
+    Some(ink.split_at(end))
 }
 
-// The first blank from a place on, or the end.
-fn past_word(text: &[u8], at: usize) -> usize
-    requires { at ≤ length text.now }
-    ensures { RunTo is_ink text.now at result }
-{
-    let mut i = at;
-    while i < text.len() {
-        if is_blank(text[i]) {
-            return i;
-        }
-        i += 1;
-    }
-    i
-}
-
-// The line that starts at a place.
-pub fn next_line(text: &[u8], at: usize) -> Line
-    requires { at < length text.now }
-    ensures { LineAt text.now at result.to result.next }
-{
-    let end = line_feed(text, at);
-    if end == text.len() {
-        return Line { to: end, next: end };
-    }
-    if end == at {
-        return Line {
-            to: end,
-            next: end + 1,
-        };
-    }
-    if text[end - 1] == b'\r' {
-        return Line {
-            to: end - 1,
-            next: end + 1,
-        };
-    }
-    Line {
-        to: end,
-        next: end + 1,
+impl<'a> Words<'a> {
+    // All words of a line.
+    #[tactic(auto, using(crate::proofs::RunLaws::words_most))]
+    pub fn of(line: &'a [u8]) -> Words<'a>
+        ensures words { words_of result.rest.now ≡ words_of line.now }
+        ensures most { length (words_of result.rest.now) ≤ length line.now }
+    {
+        Words { rest: line }
     }
 }
 
-// The first word from a place on.
-pub fn next_word(line: &[u8], at: usize) -> Span
-    requires { at ≤ length line.now }
-    ensures { WordAt line.now at result.from result.to }
-{
-    let from = past_blanks(line, at);
-    let to = past_word(line, from);
-    Span { from, to }
+impl<'a> Iterator for Words<'a> {
+    type Item = &'a [u8];
+
+    ghost next_gives = { YieldsFirstRef (λ s. words_of s.rest.now) };
+
+    ghost remaining = { item_count (λ s. words_of s.rest.now) };
+
+    fn next(&mut self) -> Option<&'a [u8]> {
+        let (word, rest) = next_word(self.rest)?;
+        self.rest = rest;
+        Some(word)
+    }
 }
 
 // The number of words.
 pub fn count_words(line: &[u8]) -> usize
     ensures { result ≡ length (words_of line.now) }
 {
-    let mut at = 0;
-    let mut count = 0;
-    loop {
-        let span = next_word(line, at);
-        let from = span.from;
-        let to = span.to;
-        if from == to {
-            return count;
-        }
-        count += 1;
-        at = to;
+    Words::of(line).count()
+}
+
+// The word of a line that has no other.
+pub fn only_word(line: &[u8]) -> Option<&[u8]>
+    ensures { MatchOption result (length (words_of line.now) ≢ 1) (λ word. words_of line.now ≡ word.now ∷ []) }
+{
+    let (word, rest) = next_word(line)?;
+    if next_word(rest).is_some() {
+        return None;
     }
+    Some(word)
 }

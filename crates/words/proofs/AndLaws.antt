@@ -1,16 +1,10 @@
 -- Words below a mask, and the lists of their lines: how many lines there are, which are lacking, and the lowest.
-use Prim.Native.Nat.{ℕ, zero, suc, ◌+◌, ◌^◌, ◌≤◌, ◌<◌, zero-le}
-use mathlib.Core.Path.{◌≡◌, refl, sym, ap, ◌∙◌}
-use mathlib.Core.Logic.{◌≢◌}
-use mathlib.Core.Bool.{Bool, false, not, ◌&&◌, ◌||◌, and-or_distrib_left}
-use mathlib.Core.List.{List, [], ◌∷◌}
-use native.Mathlib.Nat.{lt_of_le_of_lt}
-use lib.Pow.{pow_pos}
-use native.Mathlib.Omega.{arith}
-use lib.ListN.{length, get_or, drop}
-use lib.Bits.{bit_and, bit_or, and_le_r, or_lt, xor_lt}
-use lib.Dec.{eqb}
-use borrow.Author.Tests.{eqb-true, eqb-false, ne_eqb}
+use Rattle.std.specs.Prelude.{ℕ, zero, suc, ◌+◌, ◌^◌, ◌≤◌, ◌<◌, ◌≡◌, refl, ◌≢◌, Bool, false}
+use Rattle.std.specs.Prelude.{not, ◌&&◌, ◌||◌, List, [], ◌∷◌, length, get_or, drop, bit_and, bit_or, eqb}
+use Rattle.std.proofs.Common.{zero-le, sym, ap, ◌∙◌, lt_of_le_of_lt, pow_pos, arith, eqb-true, ne_eqb}
+use mathlib.Core.Bool.{and-or_distrib_left}
+use lib.Bits.{and_le_r, or_lt, xor_lt}
+use Rattle.std.proofs.lemmas.Bool.{eqb-false}
 use Rattle.basics.specs.Choice.{choice}
 use Rattle.basics.specs.Lists.{up_from, keep, All}
 use Rattle.basics.proofs.Lists.{keep-cong, keep-keep, keep-le, keep_none, none_kept, all-up_from, up_from-all, length-up_from}

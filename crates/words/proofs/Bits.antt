@@ -1,13 +1,10 @@
 -- Laws of bits: each bit operation works on each line apart, and a word is known by its bits.
-use Prim.Native.Nat.{ℕ, zero, suc, ◌+◌, ◌-◌, ◌*◌, ◌/◌, ◌%◌, ◌^◌, ◌≤◌, ◌<◌}
-use mathlib.Core.Path.{◌≡◌, refl, sym, ap, ap₂, ◌∙◌}
-use mathlib.Core.Logic.{◌≢◌}
-use native.Mathlib.Nat.{div-one, div_self, div-eq_of_lt, zero-div, mod-lt, div-add-mod', zero-lt-suc, lt_of_lt_of_le, le-add_right, le-add_left}
-use native.Mathlib.Numerals.{one-add, add-one}
-use native.Mathlib.Omega.{arith}
+use Rattle.std.specs.Prelude.{ℕ, zero, suc, ◌+◌, ◌-◌, ◌*◌, ◌/◌, ◌%◌, ◌^◌, ◌≤◌, ◌<◌, ◌≡◌, refl, ◌≢◌, bit_and, bit_xor}
+use Rattle.std.proofs.Common.{sym, ap, ap₂, ◌∙◌, div-one, mod-lt, div-add-mod', zero-lt-suc}
+use Rattle.std.proofs.Common.{lt_of_lt_of_le, le-add_right, le-add_left, one-add, add-one, arith, pow_pos, pow_mono, shr-shr}
+use native.Mathlib.Nat.{div_self, div-eq_of_lt, zero-div}
 use lib.Arith.{lt-one}
-use lib.Pow.{pow_pos, pow_mono, shr-shr}
-use lib.Bits.{bit_and, bit_xor, and_shr, and_mod, xor_shr, xor_mod}
+use lib.Bits.{and_shr, and_mod, xor_shr, xor_mod}
 use Rattle.basics.proofs.Tests.{by_equal}
 use Rattle.words.specs.Word.{bit}
 

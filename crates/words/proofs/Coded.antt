@@ -1,12 +1,7 @@
 -- Laws of words on the terms that code makes: a shifted one, a test as a number, a mask of n lines.
-use Prim.Native.Nat.{ℕ, ◌-◌, ◌*◌, ◌%◌, ◌^◌, ◌≤◌, ◌<◌}
-use mathlib.Core.Path.{◌≡◌, refl, ◌∙◌}
-use mathlib.Core.Bool.{Bool, true, false}
-use native.Mathlib.Nat.{one-mul, zero-mul}
-use native.Mathlib.Omega.{arith}
-use lib.Pow.{shl_exact, pow_pos, pow_mono}
-use lib.Bits.{bit_and, bit_xor, xor_zero_r}
-use lib.Dec.{eqb}
+use Rattle.std.specs.Prelude.{ℕ, ◌-◌, ◌*◌, ◌%◌, ◌^◌, ◌≤◌, ◌<◌, ◌≡◌, refl, Bool, true, false, bit_and, bit_xor, eqb}
+use Rattle.std.proofs.Common.{◌∙◌, one-mul, zero-mul, arith, shl_exact, pow_pos, pow_mono}
+use lib.Bits.{xor_zero_r}
 use mir.Val.{bool_byte}
 use Rattle.basics.specs.Choice.{choice}
 use Rattle.words.specs.Word.{flip, all_on, all_ones}

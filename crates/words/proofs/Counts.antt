@@ -1,12 +1,7 @@
 -- Laws of counts: the ones of a word are the lines that are 1.
-use mathlib.Core.Path.{◌≡◌, refl, sym, ap, ◌∙◌}
-use Prim.Native.Nat.{ℕ, zero, suc, ◌+◌, ◌/◌, ◌%◌, ◌^◌, ◌<◌}
-use native.Mathlib.Numerals.{add-one}
-use native.Mathlib.Omega.{arith}
-use native.Mathlib.Nat.{mod-one, div-one, mod-lt, mod-eq_of_lt}
-use mathlib.Core.List.{List, ◌∷◌}
-use lib.ListN.{length}
-use lib.Dec.{eqb}
+use Rattle.std.specs.Prelude.{◌≡◌, refl, ℕ, zero, suc, ◌+◌, ◌/◌, ◌%◌, ◌^◌, ◌<◌, List, ◌∷◌, length, eqb}
+use Rattle.std.proofs.Common.{sym, ap, ◌∙◌, add-one, arith, div-one, mod-lt, mod-eq_of_lt}
+use native.Mathlib.Nat.{mod-one}
 use lib.Count.{ones, ones_step}
 use lib.Pow.{mod-mod-pow, field}
 use Rattle.basics.specs.Choice.{choice}

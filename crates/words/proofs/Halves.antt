@@ -1,9 +1,6 @@
 -- Laws of a line inverted, by the lowest line and the half above it.
-use Prim.Native.Nat.{ℕ, suc, ◌+◌, ◌*◌, ◌^◌, ◌<◌}
-use mathlib.Core.Path.{◌≡◌, sym, ap, ◌∙◌}
-use native.Mathlib.Nat.{add-zero, pow-suc}
-use lib.Dec.{lit<}
-use lib.Bits.{bit_xor, xor_block, xor_shifted, xor_zero_r}
+use Rattle.std.proofs.Common.{ℕ, suc, ◌+◌, ◌*◌, ◌^◌, ◌<◌, ◌≡◌, sym, ap, ◌∙◌, add-zero, pow-suc, lit<, bit_xor}
+use lib.Bits.{xor_block, xor_shifted, xor_zero_r}
 use Rattle.words.specs.Word.{flip}
 use Rattle.words.proofs.Lines.{flip-flip}
 

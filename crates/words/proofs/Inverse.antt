@@ -1,9 +1,6 @@
 -- Laws of a word with all its lines inverted.
-use Prim.Native.Nat.{ℕ, ◌-◌, ◌^◌, ◌<◌}
-use mathlib.Core.Path.{◌≡◌, refl, ap, ◌∙◌}
-use mathlib.Core.Bool.{not}
-use lib.Bits.{bit_xor, xor_lt, xor_zero_l}
-use lib.Dec.{eqb}
+use Rattle.std.proofs.Common.{ℕ, ◌-◌, ◌^◌, ◌<◌, ◌≡◌, refl, ap, ◌∙◌, not, bit_xor, eqb}
+use lib.Bits.{xor_lt, xor_zero_l}
 use Rattle.words.specs.Word.{bit, all_ones}
 use Rattle.words.specs.Inverse.{inverse}
 use Rattle.words.proofs.Bits.{by_bit, bit-xor, bit-xor-one}

@@ -1,13 +1,7 @@
 -- Laws of the list of the lines that are 1.
-use Prim.Native.Nat.{ℕ, ◌<◌, ◌^◌, zero-le}
-use mathlib.Core.Path.{◌≡◌, ap, ◌∙◌}
+use Rattle.std.proofs.Common.{ℕ, ◌<◌, ◌^◌, zero-le, ◌≡◌, ap, ◌∙◌, true, arith, length, eqb, eq-eqb, eqb-true}
 use mathlib.Core.Logic.{by_cases}
-use mathlib.Core.Bool.{true}
 use native.Mathlib.Decide.{dec_le}
-use native.Mathlib.Omega.{arith}
-use lib.ListN.{length}
-use lib.Dec.{eqb}
-use borrow.Author.Tests.{eq-eqb, eqb-true}
 use Rattle.basics.specs.Lists.{up_from, All}
 use Rattle.basics.proofs.Lists.{all-up_from, up_from-all, length-up_from}
 use Rattle.basics.proofs.Kept.{all_kept, kept_all, keep-every}

@@ -1,12 +1,7 @@
 -- Laws of one line: inverted, and forced.
-use Prim.Native.Nat.{ℕ, ◌+◌, ◌-◌, ◌^◌, ◌≤◌, ◌<◌}
-use mathlib.Core.Path.{◌≡◌, sym, ap, ◌∙◌}
-use mathlib.Core.Logic.{◌↔◌, ◌≢◌}
-use native.Mathlib.Omega.{arith}
+use Rattle.std.proofs.Common.{ℕ, ◌+◌, ◌-◌, ◌^◌, ◌≤◌, ◌<◌, ◌≡◌, sym, ap, ◌∙◌, ◌↔◌, ◌≢◌, arith, bit_and, bit_xor, eqb, eq-eqb, ne_eqb}
 use lib.Pow.{pow-lt}
-use lib.Bits.{bit_and, bit_xor, and_zero_l, and_zero_r, xor_disjoint, xor_lt, xor_zero_r}
-use lib.Dec.{eqb}
-use borrow.Author.Tests.{eq-eqb, ne_eqb}
+use lib.Bits.{and_zero_l, and_zero_r, xor_disjoint, xor_lt, xor_zero_r}
 use Rattle.basics.proofs.Tests.{by_test, by_equal}
 use Rattle.words.specs.Word.{bit, flip, force}
 use Rattle.words.proofs.Bits.{bit_le, bit-and, bit-xor, bit-xor-one, bit_of_zero, bit-one-line, bit_other_line, word_ext_all}

@@ -1,19 +1,16 @@
 -- Laws of the lone zero of a mask, as code finds it: the lines that a word lacks of the mask, where they are one.
-use Prim.Native.Nat.{ℕ, ◌^◌, ◌<◌, zero-le}
-use mathlib.Core.Path.{◌≡◌, refl, sym, ap, ◌∙◌}
-use mathlib.Core.Logic.{◌≢◌, by_cases}
-use mathlib.Core.Bool.{◌&&◌}
+use Rattle.std.specs.Prelude.{ℕ, ◌^◌, ◌<◌, ◌≡◌, refl, ◌≢◌, true, false, ◌&&◌, bit_and, bit_xor, length, eqb}
+use Rattle.std.proofs.Common.{zero-le, sym, ap, ◌∙◌, arith, eq-eqb, ne_eqb, eqb-true}
+use mathlib.Core.Logic.{by_cases}
 use native.Mathlib.Decide.{dec_le}
-use native.Mathlib.Omega.{arith}
-use lib.Bits.{bit_and, bit_xor, xor_lt, and_le_r}
-use lib.ListN.{length}
+use lib.Bits.{xor_lt, and_le_r}
 use lib.Count.{ones}
-use lib.Dec.{eqb}
-use borrow.Author.Tests.{eq-eqb, ne_eqb, eqb-true}
+use Rattle.std.proofs.lemmas.Bool.{eqb-false}
+use Rattle.std.specs.Int.{is_power_of_two}
 use Rattle.basics.proofs.Tests.{by_test, by_equal, bool_ext, and-true, and_both}
 use Rattle.basics.proofs.KeptCounts.{kept_two, kept_one}
 use Rattle.words.specs.Word.{bit, force, all_on, lines_on}
-use Rattle.words.specs.WordOf.{word_of, lone_zero}
+use Rattle.words.specs.WordOf.{word_of, lacking, lone_zero}
 use Rattle.words.proofs.Bits.{by_bit, bit-and, bit-xor}
 use Rattle.words.proofs.Lines.{bit-force-same, bit_force_other}
 use Rattle.words.proofs.LineLists.{on_below}
@@ -59,12 +56,12 @@ module _ (mask s : ℕ) where
 
   module _ (fits : mask < 2 ^ 32) where
     -- where one line is lacked, it is the lone zero
-    pub lone_one : ones (bit_xor (bit_and s mask) mask) ≡ 1 → bit_xor (bit_and s mask) mask ≡ lone_zero mask s
-    unfolding lone_zero
+    pub lone_one : is_power_of_two (lacking mask s) ≡ true → lacking mask s ≡ lone_zero mask s
+    unfolding lone_zero lacking
     lone_one e =
         let lacks : ℕ = bit_xor (bit_and s mask) mask in
         let fit : lacks < 2 ^ 32 = lacks_fit mask s fits in
-        let one : length (lines_on 32 lacks) ≡ 1 = sym (ones_lines_below 32 lacks fit) ∙ e in
+        let one : length (lines_on 32 lacks) ≡ 1 = sym (ones_lines_below 32 lacks fit) ∙ eqb-true (ones lacks) 1 e in
         word_is 32 lacks _ fit (λ j l. bool_ext
         (λ o.
         let on : bit lacks j ≡ 1 = eqb-true (bit lacks j) 1 o in
@@ -80,8 +77,8 @@ module _ (mask s : ℕ) where
         eq-eqb (bit lacks j) 1 (lacks_on j (eqb-true (bit mask j) 1 w.0) (eqb-true (bit s j) 0 v.0))))
 
     -- where none or several are lacked, there is none
-    pub lone_none : (ones (bit_xor (bit_and s mask) mask) ≡ 1 → ⊥) → 0 ≡ lone_zero mask s
-    unfolding lone_zero
+    pub lone_none : is_power_of_two (lacking mask s) ≡ false → 0 ≡ lone_zero mask s
+    unfolding lone_zero lacking
     lone_none several =
         let lacks : ℕ = bit_xor (bit_and s mask) mask in
         sym (word_of_none 32 _ (λ j l. by_test (eqb (bit mask j) 1 && (eqb (bit s j) 0 && all_on (force mask j 0) s))
@@ -92,5 +89,5 @@ module _ (mask s : ℕ) where
         let alone : (k : ℕ) → j ≢ k → bit lacks k ≢ 1 = (λ k d o.
         let u = on_lack k o in
         omega (arith, (all_on_iff (force mask j 0) s).0 v.1 k (bit_force_other mask j 0 k d ∙ u.0))) in
-        absurd (several (ones_lines_below 32 lacks (lacks_fit mask s fits) ∙ line-one 32 lacks j l on alone)))
+        absurd (eqb-false (ones lacks) 1 several (ones_lines_below 32 lacks (lacks_fit mask s fits) ∙ line-one 32 lacks j l on alone)))
         (λ t. t)))

@@ -1,12 +1,6 @@
 -- The lowest line of a word that is 1, as code finds it: by the zeros below it.
-use Prim.Native.Nat.{ℕ, zero, suc, ◌+◌, ◌/◌, ◌%◌, ◌^◌, ◌<◌}
-use mathlib.Core.Path.{◌≡◌, sym, ◌∙◌}
-use mathlib.Core.Logic.{◌≢◌}
-use native.Mathlib.Nat.{div-one, add-zero}
-use native.Mathlib.Omega.{arith}
+use Rattle.std.proofs.Common.{ℕ, zero, suc, ◌+◌, ◌/◌, ◌%◌, ◌^◌, ◌<◌, ◌≡◌, sym, ◌∙◌, ◌≢◌, div-one, add-zero, arith, eqb, get_or}
 use lib.Count.{count_trailing_zeros}
-use lib.Dec.{eqb}
-use lib.ListN.{get_or}
 use Rattle.basics.specs.Lists.{up_from, keep}
 use Rattle.basics.proofs.Tests.{by_equal}
 use Rattle.words.specs.Word.{bit, lines_on}
@@ -23,7 +17,8 @@ trailing_lt (suc k) m h d = by_equal (m % 2) 0
     (λ e. rw e (let r = trailing_lt k (m / 2) (omega arith) (λ z. d (omega arith)) in omega arith))
     (λ o. rw (odd m o) (omega arith))
 
-first_on : (w a k : ℕ) → count_trailing_zeros k (w / 2 ^ a) < k → get_or (keep (λ j. eqb (bit w j) 1) (up_from a k)) 0 0 ≡ a + count_trailing_zeros k (w / 2 ^ a)
+first_on : (w a k : ℕ) → count_trailing_zeros k (w / 2 ^ a) < k
+    → get_or (keep (λ j. eqb (bit w j) 1) (up_from a k)) 0 0 ≡ a + count_trailing_zeros k (w / 2 ^ a)
 unfolding keep up_from bit count_trailing_zeros
 first_on w a zero h = absurd (omega arith)
 first_on w a (suc k) h = by_equal (w / 2 ^ a % 2) 0

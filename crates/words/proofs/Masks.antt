@@ -1,14 +1,9 @@
 -- Laws of masks: all lines of a mask are 1, and the mask of all lines.
-use Prim.Native.Nat.{ℕ, zero, suc, ◌-◌, ◌/◌, ◌^◌, ◌<◌}
-use mathlib.Core.Path.{◌≡◌, sym, ap, ◌∙◌}
-use mathlib.Core.Logic.{◌↔◌, by_cases}
-use mathlib.Core.Bool.{true, ◌&&◌}
+use Rattle.std.proofs.Common.{ℕ, zero, suc, ◌-◌, ◌/◌, ◌^◌, ◌<◌, ◌≡◌, sym, ap, ◌∙◌, ◌↔◌, true, ◌&&◌, arith, pow_pos, bit_and, eqb, eq-eqb, eqb-true}
+use mathlib.Core.Logic.{by_cases}
 use native.Mathlib.Decide.{dec_le}
-use native.Mathlib.Omega.{arith}
-use lib.Pow.{pow_pos, ones_lt}
-use lib.Bits.{bit_and, and_zero_r}
-use lib.Dec.{eqb}
-use borrow.Author.Tests.{eq-eqb, eqb-true}
+use lib.Pow.{ones_lt}
+use lib.Bits.{and_zero_r}
 use Rattle.basics.proofs.Tests.{bool_ext, and-true, and_both, by_equal}
 use Rattle.words.specs.Word.{bit, flip, force, all_on, all_ones}
 use Rattle.words.proofs.Bits.{by_bit, bit-and, bit_lowest, bit_half, bit_above, word_ext_all}

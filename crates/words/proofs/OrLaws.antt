@@ -1,9 +1,6 @@
 -- Laws of words joined: a line is 1 in a join where it is 1 in one of the two, and in a meet where it is in both.
-use Prim.Native.Nat.{ℕ, ◌%◌, ◌/◌, ◌^◌}
-use mathlib.Core.Path.{◌≡◌, sym, ap, ◌∙◌}
-use mathlib.Core.Bool.{◌&&◌, ◌||◌}
-use lib.Bits.{bit_and, bit_or, and_comm, or_shr, or_mod}
-use lib.Dec.{eqb}
+use Rattle.std.proofs.Common.{ℕ, ◌%◌, ◌/◌, ◌^◌, ◌≡◌, sym, ap, ◌∙◌, ◌&&◌, ◌||◌, bit_and, bit_or, eqb}
+use lib.Bits.{and_comm, or_shr, or_mod}
 use Rattle.basics.specs.Lists.{up_from, keep}
 use Rattle.basics.proofs.Lists.{keep-cong, keep-keep}
 use Rattle.words.specs.Word.{bit, lines_on}

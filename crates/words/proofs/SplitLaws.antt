@@ -1,13 +1,8 @@
 -- Laws of words that are split by a state: the lines of one that are 1 in it, and the lines of another that are 0.
-use Prim.Native.Nat.{ℕ, ◌+◌, ◌^◌, ◌≤◌, ◌<◌}
-use mathlib.Core.Path.{◌≡◌, refl, sym, ap, ap₂, ◌∙◌}
-use mathlib.Core.Bool.{Bool, true, false, ◌&&◌, ◌||◌, and_comm}
-use native.Mathlib.Nat.{lt_of_le_of_lt}
-use native.Mathlib.Omega.{arith}
-use lib.Bits.{bit_and, bit_or, or_lt, and_le_l}
-use lib.ListN.{length}
-use lib.Dec.{eqb}
-use borrow.Author.Tests.{eq-eqb, eqb-true}
+use Rattle.std.specs.Prelude.{ℕ, ◌+◌, ◌^◌, ◌≤◌, ◌<◌, ◌≡◌, refl, Bool, true, false, ◌&&◌, ◌||◌, bit_and, bit_or, length, eqb}
+use Rattle.std.proofs.Common.{sym, ap, ap₂, ◌∙◌, lt_of_le_of_lt, arith, eq-eqb, eqb-true}
+use mathlib.Core.Bool.{and_comm}
+use lib.Bits.{or_lt, and_le_l}
 use Rattle.basics.specs.Lists.{up_from, keep}
 use Rattle.basics.proofs.Tests.{bool_ext, and-true, and_both}
 use Rattle.basics.proofs.All.{all_of}

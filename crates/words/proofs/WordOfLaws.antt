@@ -1,14 +1,9 @@
 -- Laws of the word of the lines that pass a test.
-use Prim.Native.Nat.{ℕ, zero, suc, ◌+◌, ◌*◌, ◌/◌, ◌%◌, ◌^◌, ◌≤◌, ◌<◌}
-use mathlib.Core.Path.{◌≡◌, refl, sym, ap, ◌∙◌}
+use Rattle.std.specs.Prelude.{ℕ, zero, suc, ◌+◌, ◌*◌, ◌/◌, ◌%◌, ◌^◌, ◌≤◌, ◌<◌, ◌≡◌, refl, Bool, true, false, ◌&&◌, eqb}
+use Rattle.std.proofs.Common.{sym, ap, ◌∙◌, zero-lt-suc, lt_of_lt_of_le, arith, pow_mono, pow_pos, ne_eqb}
 use mathlib.Core.Logic.{by_cases}
-use mathlib.Core.Bool.{Bool, true, false, ◌&&◌, and-true, and-false}
+use mathlib.Core.Bool.{and-true, and-false}
 use native.Mathlib.Decide.{dec_le}
-use native.Mathlib.Nat.{zero-lt-suc, lt_of_lt_of_le}
-use native.Mathlib.Omega.{arith}
-use lib.Pow.{pow_mono, pow_pos}
-use lib.Dec.{eqb}
-use borrow.Author.Tests.{ne_eqb}
 use Rattle.basics.specs.Choice.{choice, count}
 use Rattle.basics.specs.Lists.{up_from, keep}
 use Rattle.basics.proofs.Kept.{keep-up_from-cong}

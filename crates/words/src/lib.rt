@@ -8,13 +8,15 @@ ghost use Rattle.words.specs.WordOf.{lacking, lone_zero};
 pub mod checked;
 
 // How many lines of a word are 1.
+#[tactic(auto, using(crate::proofs::Counts::ones_lines_below))]
 pub fn ones(word: u32) -> u32
     ensures { result ≡ length (lines_on 32 word) }
 {
-    u32::count_ones(word)
+    word.count_ones()
 }
 
 // The lines of a mask that are 0 in a word.
+#[tactic(auto, unfolding(crate::specs::WordOf::lacking))]
 pub fn lacking(mask: u32, word: u32) -> u32
     ensures { result ≡ lacking mask word }
 {
@@ -22,13 +24,10 @@ pub fn lacking(mask: u32, word: u32) -> u32
 }
 
 // The one line of a mask that is 0 where all its others are 1, as a word; and 0 where there is none.
+#[tactic(auto, using(crate::proofs::LoneLaws::lone_one, crate::proofs::LoneLaws::lone_none))]
 pub fn lone_zero(mask: u32, word: u32) -> u32
     ensures { result ≡ lone_zero mask word }
 {
-    let lacks = (word & mask) ^ mask;
-    if u32::count_ones(lacks) == 1 {
-        lacks
-    } else {
-        0
-    }
+    let lacks = lacking(mask, word);
+    if lacks.is_power_of_two() { lacks } else { 0 }
 }

@@ -1,11 +1,8 @@
--- `real_gates::read_controls` meets its contract: each turn reads one control more, and stops at one that is not declared or stood before.
--- Assumes nothing.
-use Prim.Native.Nat.{◌-◌, ◌≤◌}
+-- `real_gates::read_controls` meets its contract: each turn reads one word as a line of the mask. Assumes nothing.
+use Rattle.text_words.specs.Words.{words_of}
+use Rattle.real_gates.specs.Names.{names_in}
 use Rattle.real_gates.proofs.ControlLaws.{Reading}
 use Rattle.real_gates.proofs.read_controls.Given as goal
 
-abbrev pub invariant-loop-i : goal.invariant-loop-i
-invariant-loop-i l = (l.i ≤ l.wanted) × Reading l.names l.rest l.mask l.at l.i
-
-abbrev pub decreases-loop-i : goal.decreases-loop-i
-decreases-loop-i l = l.wanted - l.i
+abbrev pub invariant-loop : goal.invariant-loop
+invariant-loop l = Reading (names_in l.names) (words_of l.rest) (words_of l.left) l.mask l.counter

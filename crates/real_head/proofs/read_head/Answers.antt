@@ -1,43 +1,38 @@
 -- `real_head::read_head` meets its contract: each turn reads one line, so what is left is read from the stage that the lines before lead to.
 -- Assumes nothing.
-use mathlib.Core.Path.{refl, sym}
-use native.Mathlib.Omega.{arith}
-use Rattle.real.specs.Reading.{reading}
-use Rattle.real_head.proofs.TurnLaws.{turned_as}
+use Rattle.std.proofs.Common.{refl, sym, ap, ◌∙◌, Some, arith}
+use Rattle.real.specs.Reading.{reading, read_from}
+use Rattle.real_head.specs.Stages.{stage_of, turn_step}
 use Rattle.real_head.proofs.LineLaws.{head_goes, head_stops, head_ends}
 use Rattle.real_head.proofs.read_head.Goals as goal
 
-pub loop-at-init : goal.loop-at-init
+pub loop-here-init : goal.loop-here-init
 unfolding reading
-loop-at-init c = (omega arith, omega arith, tt, refl)
+loop-here-init c = (omega arith, refl)
 
-pub line_turn-requires : goal.line_turn-requires
-line_turn-requires c =
-    let n = c.next_line-span.ensures in
-    (n.start, omega arith, c.loop-at.invariant.2)
+pub returns-in-None : goal.returns-in-None
+returns-in-None c =
+    let l = c.loop-here in
+    head_stops _ l.line l.due c.in-Some.ensures l.invariant.1 14 c.in-None.ensures
 
-pub returns-in-Stops : goal.returns-in-Stops
-returns-in-Stops c =
-    head_stops c.args.text.now c.loop-at.at c.loop-at.line _ _ c.loop-at.due c.next_line-span.ensures c.loop-at.invariant.3 _
-    (turned_as c.args.text.now _ _ _ (sym c.in-Stops.is) c.line_turn.ensures).is
-
-pub returns-in-Begins : goal.returns-in-Begins
-returns-in-Begins c =
-    let at = c.next_line-span.ensures in
-    let t = turned_as c.args.text.now _ _ _ (sym c.in-Begins.is) c.line_turn.ensures in
+pub returns-in-Some-Begins : goal.returns-in-Some-Begins
+returns-in-Some-Begins c =
+    let l = c.loop-here in
+    let turn = ap (λ t. turn_step (Some t)) c.in-Some-Begins.field-0-is in
     record {
-      names = t.within;
-      within = at.fits;
-      counted = omega arith;
-      read = head_goes c.args.text.now c.loop-at.at c.loop-at.line _ _ c.loop-at.due at c.loop-at.invariant.3 _ t.is;
+      counted = omega (arith, l.invariant.0, c.in-Some.ensures.shorter);
+      read = head_goes _ l.line l.due c.in-Some.ensures l.invariant.1 _ (sym turn ∙ c.in-Some-Begins.ensures);
     }
 
-pub loop-at-preserved : goal.loop-at-preserved
-loop-at-preserved c =
-    let at = c.next_line-span.ensures in
-    let t = turned_as c.args.text.now _ _ _ (sym c.in-Goes.is) c.line_turn.ensures in
-    (at.fits, omega arith, t.within, head_goes c.args.text.now c.loop-at.at c.loop-at.line _ _ c.loop-at.due at c.loop-at.invariant.3 _ t.is)
+pub loop-here-preserved : goal.loop-here-preserved
+loop-here-preserved c =
+    let l = c.loop-here in
+    let turn = ap (λ t. turn_step (Some t)) c.in-Some-Goes.field-0-is in (
+      omega (arith, l.invariant.0, c.in-Some.ensures.shorter),
+      head_goes _ l.line l.due c.in-Some.ensures l.invariant.1 _ (sym turn ∙ c.in-Some-Goes.ensures),
+    )
 
 pub returns : goal.returns
 returns c =
-    head_ends c.args.text.now c.loop-at.at c.loop-at.line c.loop-at.due c.loop-at.invariant.3 (omega arith)
+    let l = c.loop-here in
+    l.invariant.1 ∙ ap (read_from l.line (stage_of l.due)) c.in_default.ensures ∙ head_ends l.line l.due

@@ -1,30 +1,34 @@
--- `report_text::put_job` meets its contract: the line of the job and the lines of its classes stand side by side, and fit. Assumes nothing.
-use native.Mathlib.Omega.{arith}
-use Rattle.text.proofs.TextLaws.{room_as, put_as}
-use Rattle.report_text.proofs.LengthLaws.{job-parts, job-fits}
-use Rattle.report_text.proofs.ReportLaws.{job_line_lem, job_put}
+-- `report_text::put_job` meets its contract: the line of the job and the lines of its classes stand side by side. Assumes nothing.
+use Rattle.std.proofs.Common.{false, sym, ◌∙◌, ◌≡◌, ◌/◌, [], ◌∷◌, length, ap}
+use Rattle.circuit.proofs.GateLaws.{gates_count}
+use Rattle.text.proofs.WritingLaws.{put_then, fits_first, fits_then, fits_as, put_alike}
+use Rattle.report_text.specs.Parts.{numbers_line}
+use Rattle.report_text.proofs.ReportLaws.{job_line_lem, job_parts}
 use Rattle.report_text.proofs.put_job.Goals as goal
 
-pub put_line-end-requires : goal.put_line-end-requires
-put_line-end-requires c =
+pub put_line-requires : goal.put_line-requires
+put_line-requires c =
     let a = c.args in
-    let parts = job-parts a.lines a.classes a.gates.now a.vectors.now in
-    let whole = job-fits a.lines a.classes a.gates.now a.vectors.now c.requires.sound c.requires.vectors_len_bound in
-    room_as 0 _ (job_line_lem a.lines a.gates.now a.vectors.now) (omega arith)
+    let circuit = a.circuit.now in
+    let d : length circuit.gates.now / 3 ≡ c.depth.result = sym (c.depth.ensures ∙ gates_count circuit.gates.now) in
+    fits_as (sym (job_line_lem circuit.lines circuit.gates.now a.vectors.now)
+    ∙ ap (λ k. numbers_line 74 (circuit.lines ∷ k ∷ length a.vectors.now ∷ []) false) d)
+    (fits_first _ (fits_as (sym (job_parts circuit.lines a.classes circuit.gates.now a.vectors.now)) c.requires.room))
 
 pub put_classes-requires : goal.put_classes-requires
 put_classes-requires c =
     let a = c.args in
-    let parts = job-parts a.lines a.classes a.gates.now a.vectors.now in
-    let whole = job-fits a.lines a.classes a.gates.now a.vectors.now c.requires.sound c.requires.vectors_len_bound in
-    let lined = put_as 0 _ a.text.now _ (job_line_lem a.lines a.gates.now a.vectors.now) c.put_line-end.ensures in
-    record { sound = c.requires.sound; vectors_in_bounds = omega arith }
+    let circuit = a.circuit.now in
+    let d : length circuit.gates.now / 3 ≡ c.depth.result = sym (c.depth.ensures ∙ gates_count circuit.gates.now) in
+    let lined = put_alike (ap (λ k. numbers_line 74 (circuit.lines ∷ k ∷ length a.vectors.now ∷ []) false) (sym d)
+    ∙ job_line_lem circuit.lines circuit.gates.now a.vectors.now) c.put_line.ensures in
+    fits_then (fits_as (sym (job_parts circuit.lines a.classes circuit.gates.now a.vectors.now)) c.requires.room) lined
 
 pub returns : goal.returns
 returns c =
     let a = c.args in
-    let parts = job-parts a.lines a.classes a.gates.now a.vectors.now in
-    let lined = put_as 0 _ a.text.now _ (job_line_lem a.lines a.gates.now a.vectors.now) c.put_line-end.ensures in (
-      omega arith,
-      job_put a.text.now _ _ a.lines a.classes a.gates.now a.vectors.now _ lined.0 lined.1 c.put_classes.ensures.1,
-    )
+    let circuit = a.circuit.now in
+    let d : length circuit.gates.now / 3 ≡ c.depth.result = sym (c.depth.ensures ∙ gates_count circuit.gates.now) in
+    let lined = put_alike (ap (λ k. numbers_line 74 (circuit.lines ∷ k ∷ length a.vectors.now ∷ []) false) (sym d)
+    ∙ job_line_lem circuit.lines circuit.gates.now a.vectors.now) c.put_line.ensures in
+    put_alike (job_parts circuit.lines a.classes circuit.gates.now a.vectors.now) (put_then lined c.put_classes.ensures)

@@ -1,32 +1,35 @@
 -- `report_text::report` meets its contract: the text is made aside, and stored where there is room for it. Assumes nothing.
-use mathlib.Core.Path.{ap, sym, ◌∙◌}
-use native.Mathlib.Omega.{arith}
-use lib.Seq.{sets, length-take-le}
-use Rattle.report_text.proofs.ReportLaws.{report_fits, text_end, report_short, report_put}
+use Rattle.std.proofs.Common.{◌≤◌, [], ◌∷◌, sym, ◌∙◌, length, length-take-le}
+use Rattle.std.proofs.lemmas.Result.{err_from_is_err_and}
+use borrow.Author.Tests.{ltb-false}
+use Rattle.refusals.proofs.Tables.{fine_row}
+use Rattle.refusals.proofs.OneAnswer.{handed_on}
+use Rattle.report_text.proofs.ReportLaws.{text_end, report_short, report_put}
 use Rattle.report_text.proofs.report.Goals as goal
 
-pub returns-then-out-end : goal.returns-then-out-end
-returns-then-out-end c = report_short _ _ _ c.put_report-end.ensures.0 (omega arith)
+pub returns-in_err-refuse_when : goal.returns-in_err-refuse_when
+returns-in_err-refuse_when c =
+    let told = handed_on (λ word. word ∷ []) (err_from_is_err_and c.from_residual.result c.from_residual.ensures.1) in
+    let short = report_short c.args.bytes.now c.args.out.now _ c.text_of-end.ensures.0 _ _ c.in_err-refuse_when.ensures in
+    (told ∙ short.0, short.1)
 
 pub slice_bounds-text-end : goal.slice_bounds-text-end
-slice_bounds-text-end c = let put = c.put_report-end in (text_end _ _ _ put.ensures.0 put.ensures.1).0
+slice_bounds-text-end c = let put = c.text_of-end in (text_end _ _ _ put.ensures.0 put.ensures.1).0
 
-pub slice_bounds-put_bytes-end : goal.slice_bounds-put_bytes-end
-slice_bounds-put_bytes-end c =
-    let put = c.put_report-end in
+pub slice_bounds-copy_from_slice-end-3 : goal.slice_bounds-copy_from_slice-end-3
+slice_bounds-copy_from_slice-end-3 c =
+    let put = c.text_of-end in
     sym (length-take-le _ _ (text_end _ _ _ put.ensures.0 put.ensures.1).0)
 
-pub put_bytes-requires : goal.put_bytes-requires
-put_bytes-requires c =
-    let put = c.put_report-end in
-    omega (arith, length-take-le put.result put.new.text (text_end _ _ _ put.ensures.0 put.ensures.1).0)
-
-pub overflow_cast-result : goal.overflow_cast-result
-overflow_cast-result c = omega (arith, report_fits c.args.bytes.now)
+pub copy_from_slice-requires : goal.copy_from_slice-requires
+copy_from_slice-requires c =
+    let put = c.text_of-end in
+    let room : put.result ≤ length c.args.out.now = ltb-false _ _ (fine_row _ _ _ _ c.in_ok-refuse_when.ensures).0 in
+    length-take-le _ _ room ∙ sym (length-take-le _ _ (text_end _ _ _ put.ensures.0 put.ensures.1).0)
 
 pub returns : goal.returns
 returns c =
-    let a = c.args in
-    let put = c.put_report-end in
-    report_put a.bytes.now a.out.now put.result put.ensures.0 (omega arith) _
-    (c.put_bytes.ensures.1 ∙ ap (sets a.out.now 0) (text_end a.bytes.now _ _ put.ensures.0 put.ensures.1).1)
+    let put = c.text_of-end in
+    let room : put.result ≤ length c.args.out.now = ltb-false _ _ (fine_row _ _ _ _ c.in_ok-refuse_when.ensures).0 in
+    report_put c.args.bytes.now c.args.out.now put.result put.ensures.0 room _
+    (c.copy_from_slice.ensures.after ∙ (text_end c.args.bytes.now _ _ put.ensures.0 put.ensures.1).1)

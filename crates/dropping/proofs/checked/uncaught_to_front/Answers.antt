@@ -1,50 +1,45 @@
 -- `dropping::checked::uncaught_to_front` meets its contract: before each turn the list is what stays so far, blank records,
 -- and what is still to be seen. Assumes nothing.
-use Prim.Native.Nat.{◌*◌, ◌≤◌}
-use mathlib.Core.Path.{◌≡◌, refl, ap, sym, ◌∙◌}
-use native.Mathlib.Omega.{arith}
-use lib.ListN.{length}
-use Rattle.circuit.specs.Gates.{gates_of}
-use Rattle.faults.specs.Records.{faults_of}
-use Rattle.faults.proofs.RecordLaws.{records_count}
-use Rattle.dropping.specs.Dropping.{words_of}
-use Rattle.dropping.proofs.PlainLaws.{numbers_faults}
-use Rattle.dropping.proofs.DropLaws.{start, long, below, fault_here, on, as_is, done_number, done_list}
+use Rattle.std.proofs.Common.{◌<◌, ap, ◌∙◌, arith, rules, length, set}
+use Rattle.std.proofs.lemmas.List.{length-set}
+use Rattle.dropping.proofs.DropLaws.{blank_is, start, below, long, fault_here, caught_turn, stays_turn, done_left, done_list}
 use Rattle.dropping.proofs.checked.uncaught_to_front.Goals as goal
+use Rattle.dropping.proofs.checked.uncaught_to_front.Goals.{then-stays, else-stays}
 
 pub loop-i-init : goal.loop-i-init
-loop-i-init c =
-    let a = c.args in
-    (omega arith, refl, start a.lines (gates_of a.gates.now) a.vector (faults_of a.list.now) c.requires.records.faults)
+loop-i-init g c = start _ _ _
 
-pub take_record-left-requires : goal.take_record-left-requires
-take_record-left-requires c =
-    let l = c.loop-i in
-    let (seen, kept, going) = l.invariant in
-    let number = records_count l.list in
-    record {
-      sound = c.requires.sound;
-      ahead_in_bounds = (omega (arith, kept), below going);
-      no_fault_value = fault_here going (omega (arith, kept));
-    }
+pub read-fault-requires : goal.read-fault-requires
+read-fault-requires g c = omega (arith, long c.loop-i.invariant (omega arith))
+
+pub write-requires : goal.write-requires
+write-requires g c = omega (arith, below c.loop-i.invariant, long c.loop-i.invariant (omega arith))
+
+pub invariant_of-known : goal.invariant_of-known
+invariant_of-known g c = record { known = fault_here c.loop-i.invariant (omega arith) c.args.circuit.now.lines c.read-fault.ensures c.requires }
+
+pub write-requires-then-stays : goal.write-requires-then-stays
+write-requires-then-stays g c =
+    let blanked = ap length c.write.ensures.written ∙ length-set _ _ _ in
+    omega (arith, blanked, below c.loop-i.invariant, long c.loop-i.invariant (omega arith))
+
+pub overflow_add-left : goal.overflow_add-left
+overflow_add-left g c = let less = below c.loop-i.invariant in search (rules, less)
 
 pub loop-i-preserved : goal.loop-i-preserved
-loop-i-preserved c =
-    let l = c.loop-i in
-    let (seen, kept, going) = l.invariant in
-    let turn = c.take_record-left.ensures in
-    let number = records_count l.list in
-    (omega arith, turn.1.1 ∙ kept, as_is (on going (omega (arith, kept)) _ refl) turn.1.0 turn.0)
+loop-i-preserved g c =
+    let less : c.loop-i.i < length (g.E.Entry.records c.args.list.now) = omega arith in
+    let blanked = c.write.ensures.written ∙ ap (set (g.E.Entry.records c.loop-i.list) c.loop-i.i) (blank_is c.default.result c.default.ensures) in
+    elim c.if-stays.branch [
+      | then-stays w ↦ stays_turn c.loop-i.invariant less c.read-fault.ensures (cc)
+          (ap g.E.Entry.records w.list-is ∙ w.write-then-stays.ensures.written ∙ ap (λ l. set l c.loop-i.left c.read-fault.result) blanked)
+          w.left-is
+      | else-stays w ↦ caught_turn c.loop-i.invariant less c.read-fault.ensures (cc)
+          (ap g.E.Entry.records w.list-is ∙ blanked) w.left-is
+    ]
 
-pub shape_of-list : goal.shape_of-list
-shape_of-list c = c.loop-i.invariant.1
+pub returns-clause-left : goal.returns-clause-left
+returns-clause-left g c = done_left c.loop-i.invariant (omega arith)
 
-pub returns : goal.returns
-returns c =
-    let l = c.loop-i in
-    let (seen, kept, going) = l.invariant in
-    let number = records_count l.list in
-    let end : length (faults_of l.list) ≤ l.i = omega (arith, kept) in
-    let whole : length l.list ≡ 4 * length (faults_of l.list) = omega
-    (arith, kept, long going, c.requires.records.whole) in
-    (done_number going end, sym (numbers_faults l.list whole) ∙ ap words_of (done_list going end))
+pub returns-clause-list : goal.returns-clause-list
+returns-clause-list g c = done_list c.loop-i.invariant (omega arith)

@@ -1,13 +1,9 @@
--- `judge::covering::covered_by` meets its contract: each turn adds one vector, and those that are left add the rest. Assumes nothing.
-use Prim.Native.Nat.{◌-◌}
-use mathlib.Core.Path.{◌≡◌}
-use lib.ListN.{length, drop}
+-- `judge::covering::covered_by` meets its contract: each turn adds one vector, of which none is refused. Assumes nothing.
+use Rattle.std.proofs.Common.{◌≡◌, fold, take}
 use Rattle.circuit.specs.Gates.{gates_of}
-use Rattle.judge.specs.Coverages.{empty_coverage, with_all}
+use Rattle.judge.specs.Coverages.{empty_coverage, with_vector}
 use Rattle.judge.proofs.covering.covered_by.Given as goal
 
-abbrev pub invariant-loop-i : goal.invariant-loop-i
-invariant-loop-i l = with_all empty_coverage l.lines (gates_of l.gates) l.vectors ≡ with_all l.coverage l.lines (gates_of l.gates) (drop l.i l.vectors)
-
-abbrev pub decreases-loop-i : goal.decreases-loop-i
-decreases-loop-i l = length l.vectors - l.i
+abbrev pub invariant-loop-vector : goal.invariant-loop-vector
+invariant-loop-vector l =
+    l.coverage ≡ fold (λ now x. with_vector now l.lines (gates_of l.gates) x) empty_coverage (take l.vector-index l.vectors)

@@ -1,18 +1,10 @@
--- `real::spelling::alone` meets its contract. Assumes nothing.
-use mathlib.Core.Path.{sym, ap, ◌∙◌}
-use lib.ListN.{length}
-use lib.Dec.{eqb}
-use mathlib.Core.Bool.{◌&&◌}
-use Rattle.text_words.specs.Words.{words_of}
+-- `real::spelling::alone` meets its contract: a word that is the same, and no word after it. Assumes nothing.
+use Rattle.std.proofs.Common.{sym, ◌∙◌}
+use Rattle.text.proofs.SameLaws.{same_told}
 use Rattle.real.proofs.spelling.alone.Goals as goal
 
-pub returns-then-not-same : goal.returns-then-not-same
-returns-then-not-same c =
-    let a = c.args in
-    sym (ap (λ b. b && eqb (length (words_of a.rest.now)) 0) (sym c.same.ensures ∙ c.if-not-same.true))
+pub returns-then-eq : goal.returns-then-eq
+returns-then-eq c = rw (sym (same_told c.args.word.now c.args.wanted.now c.eq.result c.eq.ensures) ∙ c.if-eq.true, c.count_words.ensures)
 
-pub returns : goal.returns
-returns c =
-    let a = c.args in
-    ap (λ k. eqb k 0) c.count_words.ensures ∙ sym
-    (ap (λ b. b && eqb (length (words_of a.rest.now)) 0) (sym c.same.ensures ∙ c.if-not-same.false))
+pub returns-else-eq : goal.returns-else-eq
+returns-else-eq c = rw (sym (same_told c.args.word.now c.args.wanted.now c.eq.result c.eq.ensures), c.if-eq.false)

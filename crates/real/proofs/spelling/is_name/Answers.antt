@@ -1,33 +1,20 @@
--- `real::spelling::is_name` meets its contract: each turn passes one byte. Assumes nothing.
-use native.Mathlib.Omega.{arith}
-use mathlib.Core.Path.{refl, sym, ◌∙◌}
-use Rattle.real.specs.Form.{is_name}
-use Rattle.text.proofs.EveryLaws.{all_passed, all_failed, all_ended}
-use Rattle.real.specs.Form.{is_name_byte}
+-- `real::spelling::is_name` meets its contract: every byte, and then the length, is asked. Assumes nothing.
+use Rattle.std.proofs.Common.{rules, tests, sym}
+use Rattle.std.proofs.lemmas.Iterator.{YieldsList-from_slice}
+use Rattle.real.specs.Form.{is_name_byte, is_name}
+use Rattle.text.proofs.EveryLaws.{every_from_all}
 use Rattle.real.proofs.spelling.is_name.Goals as goal
 
-pub loop-i-init : goal.loop-i-init
-loop-i-init c = (omega arith, refl)
-
-pub returns-then-not-is_name_byte : goal.returns-then-not-is_name_byte
+pub returns-then-all : goal.returns-then-all
 unfolding is_name
-returns-then-not-is_name_byte c =
-    let l = c.loop-i in
-    let a = c.args in
-    rw (l.invariant.1 ∙ all_failed is_name_byte a.word.now l.i (omega arith) (sym c.is_name_byte.ensures ∙ c.if-not-is_name_byte.true))
+returns-then-all c =
+    let every = every_from_all is_name_byte _ _ c.all.result c.all.ensures.ran (YieldsList-from_slice c.args.word.now cc)
+    (λ x b q k. search (rules, tests)) in
+    rw (sym every, c.if-all.true)
 
-pub loop-i-preserved : goal.loop-i-preserved
-loop-i-preserved c =
-    let l = c.loop-i in
-    let a = c.args in (
-      omega arith,
-      l.invariant.1 ∙ all_passed is_name_byte a.word.now l.i (omega arith)
-          (sym c.is_name_byte.ensures ∙ c.if-not-is_name_byte.false),
-    )
-
-pub returns : goal.returns
+pub returns-else-all : goal.returns-else-all
 unfolding is_name
-returns c =
-    let l = c.loop-i in
-    let a = c.args in
-    rw (l.invariant.1 ∙ all_ended is_name_byte a.word.now l.i (omega arith))
+returns-else-all c =
+    let every = every_from_all is_name_byte _ _ c.all.result c.all.ensures.ran (YieldsList-from_slice c.args.word.now cc)
+    (λ x b q k. search (rules, tests)) in
+    rw (sym every, c.if-all.false)

@@ -1,42 +1,33 @@
--- `real_export::writing::put_gates` meets its contract: each turn puts one line, and those left make the rest. Assumes nothing.
-use mathlib.Core.Path.{refl, sym, ap, ◌∙◌}
-use native.Mathlib.Omega.{arith}
-use lib.ListN.{length, length-append}
-use Rattle.circuit.specs.Gates.{gates_of}
-use Rattle.circuit.proofs.GateLaws.{gates_count}
+-- `real_export::writing::put_gates` meets its contract: each turn puts the line of one gate. Assumes nothing.
+use Rattle.std.proofs.Common.{ap, arith, take_all}
+use Rattle.basics.specs.Lists.{each}
+use Rattle.circuit.specs.Checked.{gates_in}
 use Rattle.real_export.specs.Parts.{gate_text}
-use Rattle.real_export.proofs.EachLaws.{each_end}
-use Rattle.real_export.proofs.PutLaws.{put_turn, put_none}
-use Rattle.real_export.proofs.PartLaws.{turn_ok, turn_more}
-use borrow.Author.Rules.{rules}
+use Rattle.real_export.proofs.PutLaws.{put_as}
+use Rattle.real_export.proofs.PartLaws.{put_no_gates, gate_room, put_gates_next}
 use Rattle.real_export.proofs.writing.put_gates.Goals as goal
 
 pub loop-i-init : goal.loop-i-init
-loop-i-init c = (sym (gates_count _), search rules, refl, refl, refl)
+loop-i-init c = put_no_gates c.args.circuit.now.lines c.args.out.now c.args.at
 
 pub put_gate-end-requires : goal.put_gate-end-requires
 put_gate-end-requires c =
-    let a = c.args in
-    let ok = c.requires.sound in
-    let fits = turn_ok a.lines a.gates.now ok c.loop-i.i _ _ (omega arith) c.gate.ensures c.gate_at.ensures in
-    let more = turn_more a.lines a.gates.now ok c.loop-i.i _ _ (omega arith) c.gate.ensures c.gate_at.ensures in
-    record {
-      lines_le_most_lines = (ok.lines_fit, fits);
-      gate_in_bounds = omega (arith, ap length more ∙ length-append (gate_text a.lines c.gate_at.result) _);
-    }
+    let circuit = c.args.circuit.now in
+    let l = c.loop-i in
+    let own = c.own_gate.ensures in
+    rw own.0 (gate_room circuit.lines (gates_in circuit) l.i c.gate.result.0 c.own_gate.result.gate (omega arith) c.gate.ensures own.1
+    _ c.args.at l.end l.invariant.told c.requires)
 
 pub loop-i-preserved : goal.loop-i-preserved
 loop-i-preserved c =
-    let a = c.args in
+    let circuit = c.args.circuit.now in
     let l = c.loop-i in
-    let (count, few, kept, ends, so_far) = l.invariant in
-    let w = put_turn l.out l.end _ _ _ _ _ c.put_gate-end.ensures
-    (turn_more a.lines a.gates.now c.requires.sound l.i _ _ (omega arith) c.gate.ensures c.gate_at.ensures) in
-    (count, omega arith, c.put_gate-end.auto.out ∙ kept, w.0 ∙ ends, w.1 ∙ so_far)
+    let own = c.own_gate.ensures in
+    let put = c.put_gate-end.ensures in
+    put_gates_next circuit.lines (gates_in circuit) l.i c.gate.result.0 c.own_gate.result.gate (omega arith) c.gate.ensures own.1
+    l.invariant (rw own.0 at put)
 
 pub returns : goal.returns
 returns c =
-    let l = c.loop-i in
-    let a = c.args in
-    let w = put_none l.out l.end _ (each_end (gate_text a.lines) (gates_of a.gates.now) l.i (omega arith)) in
-    (sym w.0 ∙ l.invariant.3, sym w.1 ∙ l.invariant.4)
+    let circuit = c.args.circuit.now in
+    put_as c.loop-i.invariant (ap (each (gate_text circuit.lines)) (take_all c.loop-i.i (gates_in circuit) (omega arith)))

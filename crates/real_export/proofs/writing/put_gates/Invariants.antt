@@ -1,19 +1,9 @@
--- `real_export::writing::put_gates` meets its contract: each turn puts one line, and those left make the rest. Assumes nothing.
-use Prim.Native.Nat.{◌+◌, ◌-◌, ◌≤◌}
-use mathlib.Core.Path.{◌≡◌}
-use lib.ListN.{length, drop}
-use lib.Seq.{sets}
+-- `real_export::writing::put_gates` meets its contract: each turn puts the line of one gate. Assumes nothing.
+use Rattle.std.proofs.Common.{take}
 use Rattle.basics.specs.Lists.{each}
-use Rattle.circuit.specs.Gates.{gates_of}
-use Rattle.real_export.specs.Parts.{gate_text}
+use Rattle.circuit.specs.Checked.{gates_in}
+use Rattle.real_export.specs.Parts.{Put, gate_text}
 use Rattle.real_export.proofs.writing.put_gates.Given as goal
 
 abbrev pub invariant-loop-i : goal.invariant-loop-i
-invariant-loop-i l =
-    (l.whole ≡ length (gates_of l.gates)) × (l.i ≤ l.whole)
-    × (length l.out ≡ length l.initial.out)
-    × (l.end + length (each (gate_text l.lines) (drop l.i (gates_of l.gates))) ≡ l.at + length (each (gate_text l.lines) (gates_of l.gates)))
-    × (sets l.out l.end (each (gate_text l.lines) (drop l.i (gates_of l.gates))) ≡ sets l.initial.out l.at (each (gate_text l.lines) (gates_of l.gates)))
-
-abbrev pub decreases-loop-i : goal.decreases-loop-i
-decreases-loop-i l = l.whole - l.i
+invariant-loop-i l = Put l.initial.out l.at (each (gate_text l.circuit.lines) (take l.i (gates_in l.circuit))) l.out l.end

@@ -1,25 +1,19 @@
--- `real_export::writing::put_name` meets its contract: a blank, the letter and the number are put side by side. Assumes nothing.
-use mathlib.Core.Path.{◌∙◌}
-use native.Mathlib.Omega.{arith}
-use lib.ListN.{length-set}
+-- `real_export::writing::put_name` meets its contract: a blank and the letter are put, and the number after them. Assumes nothing.
+use Rattle.std.proofs.Common.{arith}
 use Rattle.real_export.proofs.PartLaws.{name_length, put_name}
 use Rattle.real_export.proofs.writing.put_name.Goals as goal
 
-pub bounds-out-at : goal.bounds-out-at
-bounds-out-at c = omega (arith, name_length c.args.line)
+pub put_byte-letter-requires : goal.put_byte-letter-requires
+put_byte-letter-requires c = omega (arith, name_length c.args.line, c.requires.1)
 
-pub bounds-out-at-2 : goal.bounds-out-at-2
-bounds-out-at-2 c =
-    let a = c.args in
-    rw (length-set a.out.now a.at 32) (omega (arith, name_length a.line))
+pub put_byte-number-requires : goal.put_byte-number-requires
+put_byte-number-requires c = omega (arith, name_length c.args.line, c.requires.1, c.put_byte-letter.ensures.told)
 
-pub put_decimal-requires : goal.put_decimal-requires
-put_decimal-requires c = simp length-set (omega (arith, name_length c.args.line))
-
-pub shape_of-out : goal.shape_of-out
-shape_of-out c = c.put_decimal.auto.out ∙ simp length-set
+pub put_number-requires : goal.put_number-requires
+put_number-requires c = (
+  omega (arith, c.requires.0),
+  omega (arith, name_length c.args.line, c.requires.1, c.put_byte-letter.ensures.told, c.put_byte-number.ensures.told),
+)
 
 pub returns : goal.returns
-returns c =
-    let a = c.args in
-    put_name a.out.now a.at a.line _ _ c.put_decimal.ensures
+returns c = put_name c.args.line c.put_byte-letter.ensures c.put_byte-number.ensures c.put_number.ensures

@@ -1,47 +1,29 @@
--- `real_export::writing::put_names` meets its contract: each turn puts one name or nothing, and those left make the rest. Assumes nothing.
-use Prim.Native.Nat.{ℕ, ◌<◌, ◌+◌, ◌-◌, ◌≤◌}
-use mathlib.Core.Path.{◌≡◌, refl, sym, ap, ◌∙◌}
-use mathlib.Core.List.{◌++◌}
-use native.Mathlib.Omega.{arith}
-use lib.ListN.{length, length-append}
-use lib.Seq.{sets}
-use Rattle.basics.specs.Lists.{up_from, each}
-use Rattle.real_export.specs.Parts.{name_if}
-use Rattle.real_export.proofs.EachLaws.{up_all, up_more, up_end}
-use Rattle.real_export.proofs.PutLaws.{put_turn, put_none}
+-- `real_export::writing::put_names` meets its contract: each turn puts the name of its line where that is 1. Assumes nothing.
+use Rattle.std.proofs.Common.{◌≡◌, ◌∙◌, sym, arith}
+use Rattle.real_export.proofs.PartLaws.{name_room, put_no_names, put_on, put_off}
 use Rattle.real_export.proofs.writing.put_names.Goals as goal
+use Rattle.real_export.proofs.writing.put_names.Goals.{then-value-eq1, else-value-eq1}
 
--- what is left in a turn: this name, and the others
-one_more : (w n left : ℕ) → 0 < left → left ≤ n
-    → each (name_if w) (up_from (n - left) left) ≡ name_if w (n - left) ++ each (name_if w) (up_from (n - (left - 1)) (left - 1))
-one_more w n left h k = up_more (name_if w) n left h k
+pub loop-line-init : goal.loop-line-init
+loop-line-init c = put_no_names c.args.out.now c.args.at c.args.word
 
-pub loop-left-init : goal.loop-left-init
-loop-left-init c =
+pub put_name-end-requires : goal.put_name-end-requires
+put_name-end-requires c =
     let a = c.args in
-    let all = up_all (name_if a.word) a.lines in
-    (omega arith, refl, ap (λ t. a.at + length t) all, ap (sets a.out.now a.at) all)
+    let line = c.loop-line.line in (
+      omega (arith, c.requires.0),
+      name_room a.word line a.lines _ a.at c.loop-line.end (sym c.value.ensures ∙ c.if-value-eq1.true) c.loop-line-test.true
+          c.loop-line.invariant.told c.requires.1,
+    )
 
-pub put_name_if-end-requires : goal.put_name_if-end-requires
-put_name_if-end-requires c =
-    let a = c.args in
-    let more = one_more a.word a.lines c.loop-left.left (omega arith) (omega arith) in
-    record {
-      line_lt_most_lines = omega arith;
-      line_in_bounds = omega (arith, ap length more ∙ length-append (name_if a.word (a.lines - c.loop-left.left)) _);
-    }
-
-pub loop-left-preserved : goal.loop-left-preserved
-loop-left-preserved c =
-    let l = c.loop-left in
-    let a = c.args in
-    let (few, kept, ends, so_far) = l.invariant in
-    let w = put_turn l.out l.end _ _ _ _ _ c.put_name_if-end.ensures (one_more a.word a.lines l.left (omega arith) (omega arith)) in
-    (omega arith, c.put_name_if-end.auto.out ∙ kept, w.0 ∙ ends, w.1 ∙ so_far)
+pub loop-line-preserved : goal.loop-line-preserved
+loop-line-preserved c =
+    let l = c.loop-line in
+    let value = c.value.ensures in
+    elim c.if-value-eq1.branch [
+      | then-value-eq1 w ↦ rw (w.out-is, w.end-is) (put_on c.args.word l.line (sym value ∙ w.if-value-eq1.true) l.invariant w.put_name-end.ensures)
+      | else-value-eq1 w ↦ rw (w.out-is, w.end-is) (put_off c.args.word l.line (λ e. w.if-value-eq1.false (value ∙ e)) l.invariant)
+    ]
 
 pub returns : goal.returns
-returns c =
-    let l = c.loop-left in
-    let a = c.args in
-    let w = put_none l.out l.end _ (up_end (name_if a.word) a.lines l.left (omega arith)) in
-    (sym w.0 ∙ l.invariant.2, sym w.1 ∙ l.invariant.3)
+returns c = let end : c.loop-line.line ≡ c.args.lines = omega arith in rw (← end) c.loop-line.invariant

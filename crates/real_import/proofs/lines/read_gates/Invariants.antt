@@ -1,13 +1,11 @@
 -- `real_import::lines::read_gates` meets its contract: each turn reads one line, and what the lines before add is held. Assumes nothing.
-use Prim.Native.Nat.{◌-◌}
-use mathlib.Core.Path.{◌≡◌}
-use lib.ListN.{length}
-use Rattle.text_words.specs.Words.{words_of}
+use Rattle.std.proofs.Common.{length}
+use Rattle.real_gates.specs.Names.{names_in}
 use Rattle.real_import.proofs.LineLaws.{Reads}
 use Rattle.real_import.proofs.lines.read_gates.Given as goal
 
-abbrev pub invariant-loop-at : goal.invariant-loop-at
-invariant-loop-at l = (length l.own ≡ length l.initial.own) × Reads (words_of l.names) l.text l.first l.line l.at l.here l.due l.own
+abbrev pub invariant-loop-here : goal.invariant-loop-here
+invariant-loop-here l = Reads (names_in l.names) l.text l.first l.left l.line l.due l.own
 
-abbrev pub decreases-loop-at : goal.decreases-loop-at
-decreases-loop-at l = length l.text - l.at
+abbrev pub decreases-loop-here : goal.decreases-loop-here
+decreases-loop-here l = length l.left

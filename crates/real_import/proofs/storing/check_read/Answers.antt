@@ -1,59 +1,85 @@
 -- `real_import::storing::check_read` meets its contract: each test is the row's, the gates that are held being those that were read wherever
 -- rules 3 and 5 let them be looked at. Assumes nothing.
-use Prim.Native.Nat.{ℕ, ◌*◌}
-use mathlib.Core.Path.{◌≡◌, sym, ap, ◌∙◌}
-use mathlib.Core.Bool.{Bool, false}
-use mathlib.Core.List.{List}
-use native.Mathlib.Omega.{arith}
-use lib.ListN.{take}
-use lib.Seq.{length-take-le}
+use Rattle.std.proofs.Common.{ℕ, ◌*◌, ◌≡◌, sym, ap, ◌∙◌, Bool, false, List, [], length, take, length-take-le, arith}
+use Rattle.std.proofs.lemmas.Result.{err_from_is_err_and}
+use Rattle.basics.specs.Choice.{choice}
 use Rattle.refusals.specs.Tables.{Told, first_of}
-use Rattle.refusals.specs.Checks.{fine}
+use Rattle.refusals.specs.Tables.Told.{refused}
+use Rattle.refusals.specs.Answers.{fine}
 use Rattle.refusals.specs.Places.{in_word}
-use Rattle.circuit.specs.Rules.{bad_lines, circuit_rows}
-use Rattle.real_import.proofs.HoldLaws.{counts_right, rule_3, rule_5, rule_7, rule_10}
+use Rattle.refusals.proofs.OneAnswer.{handed_on}
+use Rattle.refusals.proofs.Tables.{fine_row}
+use Rattle.circuit.specs.Rules.{bad_lines, bad_counts, circuit_rows}
+use Rattle.circuit.proofs.RuleLaws.{counts_right}
+use Rattle.real_import.proofs.HoldLaws.{rule_3, rule_5, rule_7, rule_10}
 use Rattle.real_import.proofs.storing.check_read.Goals as goal
 
-few : (n m : ℕ) (b : Bool) → m ≡ in_word n → b ≡ bad_lines m → b ≡ false → bad_lines (in_word n) ≡ false
-few n m b e f g = ap bad_lines (sym e) ∙ sym f ∙ g
+-- what the test of rule 3 tells, of the lines as they were read
+lines_told : (n m : ℕ) (b : Bool) (t : Told) → m ≡ in_word n → b ≡ bad_lines m → t ≡ choice b (refused 3 0) fine
+    → t ≡ choice (bad_lines (in_word n)) (refused 3 0) fine
+lines_told n m b t e f g = g ∙ ap (λ x. choice x (refused 3 0) fine) (f ∙ ap bad_lines e)
+
+few : (n m : ℕ) (b : Bool) → m ≡ in_word n → b ≡ bad_lines m → fine ≡ choice b (refused 3 0) fine → bad_lines (in_word n) ≡ false
+few n m b e f g = (fine_row (bad_lines (in_word n)) 3 0 fine (lines_told n m b fine e f g)).0
+
+counts : (d : ℕ) (b : Bool) → b ≡ bad_counts d 0 → fine ≡ choice b (refused 5 0) fine → bad_counts d 0 ≡ false
+counts d b f g = sym f ∙ (fine_row b 5 0 fine g).0
 
 -- what the check of the circuit tells
 told : (n m : ℕ) (words : List ℕ) (t : Told) → m ≡ in_word n → t ≡ first_of (circuit_rows m words) fine
     → t ≡ first_of (circuit_rows (in_word n) words) fine
 told n m words t e f = f ∙ ap (λ k. first_of (circuit_rows k words) fine) e
 
-pub returns-then-bad_lines : goal.returns-then-bad_lines
-returns-then-bad_lines c words h =
+pub returns-in_err-refuse_when-clause-rules : goal.returns-in_err-refuse_when-clause-rules
+returns-in_err-refuse_when-clause-rules c words h =
     let a = c.args in
-    rule_3 a.lines a.gates a.room a.own.now words h
-    (ap bad_lines (sym c.in_word-n.ensures) ∙ sym c.bad_lines.ensures ∙ c.if-bad_lines.true)
+    handed_on (λ _. []) (err_from_is_err_and c.from_residual.result c.from_residual.ensures.1)
+    ∙ rule_3 a.form.lines a.form.gates a.room a.own.now words h _ _
+    (lines_told a.form.lines _ _ _ c.in_word-lines.ensures c.bad_lines.ensures c.in_err-refuse_when.ensures)
 
-pub returns-then-bad_counts : goal.returns-then-bad_counts
-returns-then-bad_counts c words h =
+pub returns-in_err-refuse_when-2-clause-rules : goal.returns-in_err-refuse_when-2-clause-rules
+returns-in_err-refuse_when-2-clause-rules c words h =
     let a = c.args in
-    rule_5 a.lines a.gates a.room a.own.now words h (few a.lines _ _ c.in_word-n.ensures c.bad_lines.ensures c.if-bad_lines.false)
-    (sym c.bad_counts.ensures ∙ c.if-bad_counts.true)
+    handed_on (λ _. []) (err_from_is_err_and c.from_residual-in_err-refuse_when-2.result c.from_residual-in_err-refuse_when-2.ensures.1)
+    ∙ rule_5 a.form.lines a.form.gates a.room a.own.now words h
+    (few a.form.lines _ _ c.in_word-lines.ensures c.bad_lines.ensures c.in_ok-refuse_when.ensures) _ _
+    (c.in_err-refuse_when-2.ensures ∙ ap (λ b. choice b (refused 5 0) fine) c.bad_counts.ensures)
 
-pub overflow_mul-words : goal.overflow_mul-words
-overflow_mul-words c =
+pub overflow_mul-form : goal.overflow_mul-form
+overflow_mul-form c =
     let a = c.args in
-    omega (arith, counts_right a.gates (sym c.bad_counts.ensures ∙ c.if-bad_counts.false))
+    omega (arith, (counts_right a.form.gates 0 (counts a.form.gates _ c.bad_counts.ensures c.in_ok-refuse_when-2.ensures)).0)
 
 pub slice_bounds-check_circuit-end : goal.slice_bounds-check_circuit-end
 slice_bounds-check_circuit-end c =
-    sym (length-take-le (3 * c.args.gates) c.args.own.now
-    (omega (arith, c.requires, counts_right c.args.gates (sym c.bad_counts.ensures ∙ c.if-bad_counts.false))))
-
-pub returns-in-Wrong : goal.returns-in-Wrong
-returns-in-Wrong c words h =
     let a = c.args in
-    rule_7 a.lines a.gates a.room a.own.now words h (few a.lines _ _ c.in_word-n.ensures c.bad_lines.ensures c.if-bad_lines.false)
-    (sym c.bad_counts.ensures ∙ c.if-bad_counts.false) c.requires _ _
-    (told a.lines _ (take (3 * a.gates) a.own.now) _ c.in_word-n.ensures c.in-Wrong.ensures)
+    let fit = (counts_right a.form.gates 0 (counts a.form.gates _ c.bad_counts.ensures c.in_ok-refuse_when-2.ensures)).0 in
+    sym (length-take-le (3 * a.form.gates) a.own.now (omega (arith, c.requires, fit)))
 
-pub returns : goal.returns
-returns c words h =
+pub returns-in_err-circuit-clause-rules : goal.returns-in_err-circuit-clause-rules
+returns-in_err-circuit-clause-rules c words h =
     let a = c.args in
-    rule_10 a.lines a.gates a.room a.own.now words h (few a.lines _ _ c.in_word-n.ensures c.bad_lines.ensures c.if-bad_lines.false)
-    (sym c.bad_counts.ensures ∙ c.if-bad_counts.false) c.requires _
-    (told a.lines _ (take (3 * a.gates) a.own.now) _ c.in_word-n.ensures c.in_default.ensures) c.unless.ensures
+    handed_on (λ _. []) (err_from_is_err_and c.from_residual-in_err-circuit.result c.from_residual-in_err-circuit.ensures.1)
+    ∙ rule_7 a.form.lines a.form.gates a.room a.own.now words h
+    (few a.form.lines _ _ c.in_word-lines.ensures c.bad_lines.ensures c.in_ok-refuse_when.ensures)
+    (counts a.form.gates _ c.bad_counts.ensures c.in_ok-refuse_when-2.ensures) c.requires _ _
+    (told a.form.lines _ (take (3 * a.form.gates) a.own.now) _ c.in_word-lines.ensures c.in_err-circuit.ensures.rules)
+
+pub returns-in_err-refuse_when-3-clause-rules : goal.returns-in_err-refuse_when-3-clause-rules
+returns-in_err-refuse_when-3-clause-rules c words h =
+    let a = c.args in
+    handed_on (λ _. []) (err_from_is_err_and c.from_residual-in_err-refuse_when-3.result c.from_residual-in_err-refuse_when-3.ensures.1)
+    ∙ rule_10 a.form.lines a.form.gates a.room a.own.now words h
+    (few a.form.lines _ _ c.in_word-lines.ensures c.bad_lines.ensures c.in_ok-refuse_when.ensures)
+    (counts a.form.gates _ c.bad_counts.ensures c.in_ok-refuse_when-2.ensures) c.requires _ _
+    (told a.form.lines _ (take (3 * a.form.gates) a.own.now) _ c.in_word-lines.ensures c.in_ok-circuit.ensures.rules)
+    (ap length c.in_ok-circuit.ensures.circuit.1) c.in_err-refuse_when-3.ensures
+
+pub returns-clause-rules : goal.returns-clause-rules
+returns-clause-rules c words h =
+    let a = c.args in
+    rule_10 a.form.lines a.form.gates a.room a.own.now words h
+    (few a.form.lines _ _ c.in_word-lines.ensures c.bad_lines.ensures c.in_ok-refuse_when.ensures)
+    (counts a.form.gates _ c.bad_counts.ensures c.in_ok-refuse_when-2.ensures) c.requires _ _
+    (told a.form.lines _ (take (3 * a.form.gates) a.own.now) _ c.in_word-lines.ensures c.in_ok-circuit.ensures.rules)
+    (ap length c.in_ok-circuit.ensures.circuit.1) c.in_ok-refuse_when-3.ensures

@@ -1,31 +1,19 @@
--- `real_import::storing::hold` meets its contract: three words are stored one after another, or none. Assumes nothing.
-use Prim.Native.Nat.{◌+◌, ◌*◌}
-use native.Mathlib.Omega.{arith}
-use lib.ListN.{set, length-set}
+-- `real_import::storing::hold` meets its contract: three words are copied to their place, or none. Assumes nothing.
+use Rattle.std.proofs.Common.{refl, sym, ◌∙◌, ◌+◌, ◌*◌, ◌-◌, [], ◌∷◌, arith}
+use Rattle.std.proofs.lemmas.List.Edits.{sets-eq}
+use Rattle.std.proofs.lemmas.Slice.{put_mid-paste}
 use Rattle.real_import.proofs.HoldLaws.{held_in, held_over}
 use Rattle.real_import.proofs.storing.hold.Goals as goal
-
-pub bounds-own-at-then-gates-own : goal.bounds-own-at-then-gates-own
-bounds-own-at-then-gates-own c =
-    let a = c.args in
-    omega (arith, length-set a.own.now (3 * a.gates) a.controls)
-
-pub bounds-own-at-then-gates-own-2 : goal.bounds-own-at-then-gates-own-2
-bounds-own-at-then-gates-own-2 c =
-    let a = c.args in
-    omega (
-      arith,
-      length-set (set a.own.now (3 * a.gates) a.controls) (3 * a.gates + 1) 0,
-      length-set a.own.now (3 * a.gates)
-          a.controls,
-    )
 
 pub returns-then-gates-own : goal.returns-then-gates-own
 returns-then-gates-own c =
     let a = c.args in
-    held_in a.own.now a.gates a.controls a.target (omega arith)
+    let at = 3 * a.gates in
+    let words = a.gate.controls ∷ 0 ∷ a.gate.target ∷ [] in
+    let pasted = put_mid-paste at (at + 3 - at) a.own.now _ words 3 c.copy_from_slice.ensures.after (omega arith) refl in
+    held_in a.own.now a.gates a.gate.controls a.gate.target _ (omega arith) (pasted ∙ sym (sets-eq words a.own.now at (omega arith)))
 
 pub returns-else-gates-own : goal.returns-else-gates-own
 returns-else-gates-own c =
     let a = c.args in
-    held_over a.own.now a.gates a.controls a.target (omega arith)
+    held_over a.own.now a.gates a.gate.controls a.gate.target (omega arith)

@@ -9,7 +9,7 @@ pub step-requires-2 : goal.step-requires-2
 step-requires-2 c =
     let start = c in
     let a = start.args in
-    rw c.gate_at.ensures (target_fits a.lines a.gates.now _ start.requires.sound (omega arith) (omega arith))
+    rw c.gate.ensures (target_fits a.circuit.now.lines a.circuit.now.gates.now _ start.args.circuit.now.sound (omega arith) (omega arith))
 
 pub returns : goal.returns
 returns c =

@@ -8,7 +8,7 @@ use Rattle.simulator.proofs.checked.catches_missing_gate.Goals as goal
 pub step-requires : goal.step-requires
 step-requires c =
     let a = c.args in
-    rw c.gate_at.ensures (target_fits a.lines a.gates.now _ c.requires.sound (omega arith) (omega arith))
+    rw c.gate.ensures (target_fits a.circuit.now.lines a.circuit.now.gates.now _ c.args.circuit.now.sound (omega arith) (omega arith))
 
 pub returns : goal.returns
 returns c =

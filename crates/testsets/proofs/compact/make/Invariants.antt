@@ -1,11 +1,14 @@
 -- `testsets::compact::make` meets its contract: each turn stores the next vector of the set and drops what it catches, at least half of what is left.
 -- Assumes nothing.
-use Rattle.circuit.specs.Gates.{gates_of}
+use Rattle.std.proofs.Common.{◌≡◌}
+use Rattle.circuit.specs.Checked.{gates_in}
+use Rattle.testsets.specs.FaultsLeft.{faults_left}
 use Rattle.testsets.proofs.PickTurns.{Picking}
 use Rattle.testsets.proofs.compact.make.Given as goal
 
-abbrev pub invariant-loop-left : goal.invariant-loop-left
-invariant-loop-left l = Picking l.lines (gates_of l.gates) l.initial.room l.room l.left_0 l.left_1 l.left l.count
+abbrev pub invariant-loop-remain : goal.invariant-loop-remain
+invariant-loop-remain l =
+    (l.left.circuit ≡ l.circuit) × Picking l.left.circuit.lines (gates_in l.left.circuit) l.initial.room l.room (faults_left l.left) l.remain l.count
 
-abbrev pub decreases-loop-left : goal.decreases-loop-left
-decreases-loop-left l = l.left
+abbrev pub decreases-loop-remain : goal.decreases-loop-remain
+decreases-loop-remain l = l.remain

@@ -1,18 +1,18 @@
--- `testsets::rules::bound` meets its contract: it is 2 and the logarithm of the number of sites. Assumes nothing.
-use native.Mathlib.Omega.{arith}
+-- `testsets::rules::bound` meets its contract: a circuit has a site at least, and the powers of 2 around their number are those of the logarithm.
+-- Assumes nothing.
+use Rattle.std.proofs.Common.{arith}
+use Rattle.faults.proofs.SiteCount.{site_count-some}
 use Rattle.testsets.specs.Sets.{bound}
-use Rattle.testsets.proofs.Log2Laws.{log2_le_self}
-use Rattle.faults.proofs.SiteCount.{site_count-le, site_count-some}
-use borrow.Author.Rules.{rules}
+use Rattle.testsets.proofs.Log2Laws.{log2_is}
 use Rattle.testsets.proofs.rules.bound.Goals as goal
 
-pub overflow_add-result : goal.overflow_add-result
-overflow_add-result c =
-    let a = c.args in
-    let most = site_count-le a.lines a.gates.now (search rules) in
-    let some = site_count-some a.lines a.gates.now (search rules) in
-    omega (arith, log2_le_self c.site_count.result (omega arith))
+pub ilog2-requires : goal.ilog2-requires
+ilog2-requires c =
+    let circuit = c.args.circuit.now in
+    omega (arith, c.site_count.ensures, site_count-some circuit.lines circuit.gates.now circuit.sound)
 
 pub returns : goal.returns
 unfolding bound
-returns c = rw (c.log2.ensures, c.site_count.ensures)
+returns c =
+    let log = log2_is c.site_count.result c.ilog2.result c.ilog2.ensures.power_le c.ilog2.ensures.next_power_gt in
+    rw (log, c.site_count.ensures)

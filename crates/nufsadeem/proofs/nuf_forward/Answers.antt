@@ -1,7 +1,0 @@
--- `nufsadeem::nuf_forward` meets its contract: its fields are those of what `circuit::forward` tells. Assumes nothing.
-use mathlib.Core.Path.{ap, ◌∙◌}
-use Rattle.answers.specs.Fields.{fields}
-use Rattle.nufsadeem.proofs.nuf_forward.Goals as goal
-
-pub returns : goal.returns
-returns c = c.run_of.ensures ∙ ap (fields 1) c.forward.ensures
