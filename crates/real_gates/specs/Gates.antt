@@ -1,8 +1,6 @@
 -- What the reading of a gate's words tells.
 use Rattle.std.specs.Prelude.{ℕ, ◌≤◌, ◌≡◌, Bool, true, false, ◌&&◌, Option, MatchOption, List, [], ◌∷◌, length, take, drop}
-use Rattle.std.specs.Borrow.{Bor}
 use Rattle.text.specs.Texts.{every, among, distinct}
-use Rattle.text_words.specs.Words.{words_of}
 use Rattle.real.specs.Form.{Word, controls_of, mask_of, gate_of}
 use Rattle.real_gates.specs.declared.Gate.{Gate}
 
@@ -28,7 +26,7 @@ pub record IsGate (names words : List Word) (gate : Gate) : Type 0 where
 abbrev pub GateRead : List Word → List Word → Option Gate → Type 0
 GateRead names words read = MatchOption read (are_gate names words ≡ false) (IsGate names words)
 
--- some words read as controls: their mask, with what stands after them
-abbrev pub ControlsRead : List Word → List Word → ℕ → Option (ℕ × Bor (List ℕ)) → Type 0
-ControlsRead names words wanted read =
-    MatchOption read (are_controls names (take wanted words) ≡ false) (λ found. Masked names words wanted found.0 (words_of found.1.now))
+-- some words read as controls: their mask, where the words after them are left
+abbrev pub ControlsRead : List Word → List Word → ℕ → Option ℕ → List Word → Type 0
+ControlsRead names words wanted read left =
+    MatchOption read (are_controls names (take wanted words) ≡ false) (λ mask. Masked names words wanted mask left)

@@ -32,23 +32,20 @@ pub fn token_of(token: &[u8], rest: &[u8]) -> Option<usize>
     (1 <= count && same::is_decimal(number, count)).then_some(count)
 }
 
-// The mask of a line's first words, so many, as controls of a circuit with at most 32 lines, and what follows them.
-fn read_controls<'a>(names: &Names, rest: &'a [u8], wanted: usize) -> Option<(u32, &'a [u8])>
-    requires { (names.now.count ≤ 32) × (wanted ≤ length (words_of rest.now)) }
-    ensures { ControlsRead (names_in names.now) (words_of rest.now) wanted result }
+// The mask of the next words, so many, as controls of a circuit with at most 32 lines.
+fn read_controls(names: &Names, left: &mut Words, wanted: usize) -> Option<u32>
+    requires { (names.now.count ≤ 32) × (wanted ≤ length (words_of left.old.rest.now)) }
+    ensures { ControlsRead (names_in names.now) (words_of left.old.rest.now) wanted result (words_of left.new.rest.now) }
 {
     let mut mask = 0;
-    let mut left = rest;
     for _ in 0..wanted {
-        let (word, after) = runs::next_word(left)?;
-        let line = names.place(word)? as u32;
+        let line = names.place(left.next()?)? as u32;
         if words::checked::value(mask, line) == 1 {
             return None;
         }
         mask = words::checked::flip(mask, line);
-        left = after;
     }
-    Some((mask, left))
+    Some(mask)
 }
 
 // The words of a gate of a circuit with at most 32 lines.
@@ -56,9 +53,9 @@ fn narrow(names: &Names, rest: &[u8], words: usize) -> Option<Gate>
     requires { (names.now.count ≤ 32) × ((1 ≤ words) × (words ≡ length (words_of rest.now))) }
     ensures { GateRead (names_in names.now) (words_of rest.now) result }
 {
-    let (controls, left) = read_controls(names, rest, words - 1)?;
-    let (word, _) = runs::next_word(left)?;
-    let target = names.place(word)? as u32;
+    let mut left = Words::of(rest);
+    let controls = read_controls(names, &mut left, words - 1)?;
+    let target = names.place(left.next()?)? as u32;
     Some(Gate { controls, target })
 }
 

@@ -4,9 +4,10 @@ ghost use Rattle.words.specs.Word.{bit, force};
 ghost use Rattle.circuit.specs.Limits.{most_lines};
 ghost use Rattle.circuit.specs.Gates.{gate_at};
 ghost use Rattle.circuit.specs.Checked.{gates_in};
-ghost use Rattle.circuit.specs.Controls.{with_control};
 ghost use Rattle.circuit.specs.Runs.{step, run, forward};
+ghost use Rattle.faults.specs.Kinds.{gate_class_number};
 ghost use Rattle.simulator.specs.Shown.{state_read, output_from};
+ghost use Rattle.simulator.specs.Others.{other_gate, Fits, step_of};
 ghost use Rattle.simulator.specs.Faulty.{faulty, caught};
 
 use circuit::checked::{Circuit, step, with_control};
@@ -40,56 +41,55 @@ fn run_stuck_at(circuit: &Circuit, vector: u32, fault: Fault) -> u32
     )
 }
 
-// The output with a gate left out.
-fn run_without(circuit: &Circuit, vector: u32, fault: Fault) -> u32
-    requires { (1 ≤ fault.place) × (fault.place ≤ length (gates_in circuit.now)) }
-    ensures { result ≡ output_from (gates_in circuit.now) fault (state_read (gates_in circuit.now) fault vector) }
+// What stands in the place of the gate of a fault: nothing, or the gate with one control less or one more.
+fn other_gate(known: &KnownFault, class: GateClass) -> Option<Gate>
+    requires { known.now.fault.class ≡ gate_class_number class }
+    ensures other { result ≡ other_gate class known.now.fault.line (gate_at (gates_in known.now.circuit) known.now.fault.place) }
+    ensures fits { Fits result }
 {
-    let gate = places::gate_of(fault);
-    let state = circuit.run_forward(numbers::level_read(gate), vector);
-    run_rest(circuit, numbers::level_made(gate), state)
+    let fault = known.fault;
+    let gate = known.circuit.gate(places::gate_of(fault));
+    match class {
+        GateClass::MissingGate => None,
+        GateClass::MissingControl => Some(with_control(gate, fault.line, 0)),
+        GateClass::ExtraControl => Some(with_control(gate, fault.line, 1)),
+    }
 }
 
-// The output with another gate in the place of a gate.
-fn run_changed(circuit: &Circuit, vector: u32, fault: Fault, other: Gate) -> u32
-    requires le_place { (1 ≤ fault.place) × (fault.place ≤ length (gates_in circuit.now)) }
-    requires target_lt_most_lines { other.target < most_lines }
-    ensures { result ≡ output_from (gates_in circuit.now) fault (step other (state_read (gates_in circuit.now) fault vector)) }
+// What it makes of a state: nothing leaves it as it is.
+fn step_of(other: Option<Gate>, state: u32) -> u32
+    requires { Fits other }
+    ensures { result ≡ step_of other state }
 {
-    let gate = places::gate_of(fault);
-    let state = circuit.run_forward(numbers::level_read(gate), vector);
-    run_rest(circuit, numbers::level_made(gate), step(other, state))
+    match other {
+        Some(gate) => step(gate, state),
+        None => state,
+    }
 }
 
-// The gate of a fault, with the line that the fault names as a control where the value is 1, and as none where it is 0.
-fn changed_gate(circuit: &Circuit, fault: Fault, value: u32) -> Gate
-    requires { (1 ≤ fault.place) × (fault.place ≤ length (gates_in circuit.now)) × (fault.line < most_lines) }
-    ensures { result ≡ with_control fault.line value (gate_at (gates_in circuit.now) fault.place) }
+// The output with another gate, or none, in the place of a gate.
+fn run_changed(known: &KnownFault, other: Option<Gate>, vector: u32) -> u32
+    requires le_place { (1 ≤ known.now.fault.place) × (known.now.fault.place ≤ length (gates_in known.now.circuit)) }
+    requires fits { Fits other }
+    ensures { result ≡ output_from (gates_in known.now.circuit) known.now.fault
+        (step_of other (state_read (gates_in known.now.circuit) known.now.fault vector)) }
 {
-    with_control(circuit.gate(places::gate_of(fault)), fault.line, value)
+    let gate = places::gate_of(known.fault);
+    let state = known.circuit.run_forward(numbers::level_read(gate), vector);
+    run_rest(
+        &known.circuit,
+        numbers::level_made(gate),
+        step_of(other, state),
+    )
 }
 
 // The output of the circuit with a fault in it.
 pub fn faulty_run(known: &KnownFault, vector: u32) -> u32
     ensures { result ≡ faulty (gates_in known.now.circuit) known.now.fault vector }
 {
-    let circuit = &known.circuit;
-    let fault = known.fault;
     match known.class() {
-        Class::StuckAt => run_stuck_at(circuit, vector, fault),
-        Class::AtGate(GateClass::MissingGate) => run_without(circuit, vector, fault),
-        Class::AtGate(GateClass::MissingControl) => run_changed(
-            circuit,
-            vector,
-            fault,
-            changed_gate(circuit, fault, 0),
-        ),
-        Class::AtGate(GateClass::ExtraControl) => run_changed(
-            circuit,
-            vector,
-            fault,
-            changed_gate(circuit, fault, 1),
-        ),
+        Class::StuckAt => run_stuck_at(&known.circuit, vector, known.fault),
+        Class::AtGate(class) => run_changed(known, other_gate(known, class), vector),
     }
 }
 
@@ -102,49 +102,25 @@ fn catches_stuck_at(circuit: &Circuit, vector: u32, fault: Fault) -> bool
     words::checked::value(state, fault.line) != fault.value
 }
 
-// Whether a gate changes the state that it reads.
-fn catches_missing_gate(circuit: &Circuit, vector: u32, fault: Fault) -> bool
-    requires { (1 ≤ fault.place) × (fault.place ≤ length (gates_in circuit.now)) }
-    ensures { result ≡ not (eqb (state_read (gates_in circuit.now) fault vector)
-        (step (gate_at (gates_in circuit.now) fault.place) (state_read (gates_in circuit.now) fault vector))) }
+// Whether another gate, or none, in the place of a gate makes another state of the one that it reads.
+fn catches_changed(known: &KnownFault, other: Option<Gate>, vector: u32) -> bool
+    requires le_place { (1 ≤ known.now.fault.place) × (known.now.fault.place ≤ length (gates_in known.now.circuit)) }
+    requires fits { Fits other }
+    ensures { result ≡ not (eqb (step_of other (state_read (gates_in known.now.circuit) known.now.fault vector))
+        (step (gate_at (gates_in known.now.circuit) known.now.fault.place) (state_read (gates_in known.now.circuit) known.now.fault vector))) }
 {
-    let gate = places::gate_of(fault);
-    let state = circuit.run_forward(numbers::level_read(gate), vector);
-    state != step(circuit.gate(gate), state)
-}
-
-// Whether another gate in the place of a gate makes another state of the one that it reads.
-fn catches_changed(circuit: &Circuit, vector: u32, fault: Fault, other: Gate) -> bool
-    requires le_place { (1 ≤ fault.place) × (fault.place ≤ length (gates_in circuit.now)) }
-    requires target_lt_most_lines { other.target < most_lines }
-    ensures { result ≡ not (eqb (step other (state_read (gates_in circuit.now) fault vector))
-        (step (gate_at (gates_in circuit.now) fault.place) (state_read (gates_in circuit.now) fault vector))) }
-{
-    let gate = places::gate_of(fault);
-    let state = circuit.run_forward(numbers::level_read(gate), vector);
-    step(other, state) != step(circuit.gate(gate), state)
+    let gate = places::gate_of(known.fault);
+    let state = known.circuit.run_forward(numbers::level_read(gate), vector);
+    let made = step(known.circuit.gate(gate), state);
+    step_of(other, state) != made
 }
 
 // Whether a vector catches a fault, by what each class changes at one level.
 pub fn catches(known: &KnownFault, vector: u32) -> bool
     ensures { result ≡ caught (gates_in known.now.circuit) known.now.fault vector }
 {
-    let circuit = &known.circuit;
-    let fault = known.fault;
     match known.class() {
-        Class::StuckAt => catches_stuck_at(circuit, vector, fault),
-        Class::AtGate(GateClass::MissingGate) => catches_missing_gate(circuit, vector, fault),
-        Class::AtGate(GateClass::MissingControl) => catches_changed(
-            circuit,
-            vector,
-            fault,
-            changed_gate(circuit, fault, 0),
-        ),
-        Class::AtGate(GateClass::ExtraControl) => catches_changed(
-            circuit,
-            vector,
-            fault,
-            changed_gate(circuit, fault, 1),
-        ),
+        Class::StuckAt => catches_stuck_at(&known.circuit, vector, known.fault),
+        Class::AtGate(class) => catches_changed(known, other_gate(known, class), vector),
     }
 }

@@ -8,24 +8,33 @@ use Rattle.real_gates.proofs.narrow.Goals as goal
 pub returns-in_err-controls : goal.returns-in_err-controls
 returns-in_err-controls c =
     let a = c.args in
-    rw c.from_residual.ensures
-    (wrong_controls (names_in a.names.now) (words_of a.rest.now) (a.words - 1) (omega arith) c.in_err-controls.ensures)
+    let all = c.of-left.ensures.words in
+    rw (c.from_residual.ensures, ← all)
+    (wrong_controls (names_in a.names.now) (words_of c.of-left.result.rest.now) (a.words - 1) (rw all (omega arith)) c.in_err-controls.ensures)
 
-pub returns-in_err-word : goal.returns-in_err-word
-returns-in_err-word c =
+pub returns-in_err-next : goal.returns-in_err-next
+returns-in_err-next c =
     let a = c.args in
-    absurd (some_target (names_in a.names.now) (words_of a.rest.now) (a.words - 1) (omega arith) c.in_ok-controls.ensures c.in_err-word.ensures)
+    let all = c.of-left.ensures.words in
+    let none = c.in_err-next.ensures in
+    absurd (some_target (names_in a.names.now) (words_of c.of-left.result.rest.now) (a.words - 1) (rw all (omega arith)) c.in_ok-controls.ensures
+    none.steps.0)
 
 pub returns-in_err-target : goal.returns-in_err-target
 returns-in_err-target c =
     let a = c.args in
-    let word = c.in_ok-word.ensures in
-    rw c.from_residual-in_err-target.ensures
-    (no_target (names_in a.names.now) (words_of a.rest.now) (a.words - 1) (omega arith) c.in_ok-controls.ensures word.split c.in_err-target.ensures)
+    let all = c.of-left.ensures.words in
+    let word = c.in_ok-next.ensures in
+    rw (c.from_residual-in_err-target.ensures, ← all)
+    (no_target (names_in a.names.now) (words_of c.of-left.result.rest.now) (a.words - 1) (rw all (omega arith)) c.in_ok-controls.ensures word.steps
+    c.in_err-target.ensures)
 
 pub returns : goal.returns
 returns c =
     let a = c.args in
-    let word = c.in_ok-word.ensures in
+    let all = c.of-left.ensures.words in
+    let word = c.in_ok-next.ensures in
     let target = c.in_ok-target.ensures in
-    gate_narrow (names_in a.names.now) (words_of a.rest.now) (a.words - 1) (omega arith) c.in_ok-controls.ensures word.split target.0 target.1
+    rw (← all)
+    (gate_narrow (names_in a.names.now) (words_of c.of-left.result.rest.now) (a.words - 1) (rw all (omega arith)) c.in_ok-controls.ensures word.steps
+    target.0 target.1)

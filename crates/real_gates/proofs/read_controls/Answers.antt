@@ -6,27 +6,28 @@ use Rattle.real_gates.proofs.ControlLaws.{reading_none, masked, some_left, not_d
 use Rattle.real_gates.proofs.read_controls.Goals as goal
 
 pub loop-init : goal.loop-init
-loop-init c = reading_none (names_in c.args.names.now) (words_of c.args.rest.now)
+loop-init c = reading_none (names_in c.args.names.now) (words_of c.args.left.now.rest.now)
 
-pub returns-in_err-word : goal.returns-in_err-word
-returns-in_err-word c = absurd (some_left c.loop.invariant c.loop-test.true c.requires.1 c.in_err-word.ensures)
+pub returns-in_err-next : goal.returns-in_err-next
+returns-in_err-next c = let none = c.in_err-next.ensures in absurd (some_left c.loop.invariant c.loop-test.true c.requires.1 none.steps.0)
 
 pub returns-in_err-line : goal.returns-in_err-line
 returns-in_err-line c =
+    let word = c.in_ok-next.ensures in
     rw c.from_residual-in_err-line.ensures
-    (not_declared c.loop.invariant c.loop-test.true c.requires.1 (let word = c.in_ok-word.ensures in word.split) c.in_err-line.ensures)
+    (not_declared c.loop.invariant c.loop-test.true c.requires.1 word.steps c.in_err-line.ensures)
 
 pub returns-then-value-eq1 : goal.returns-then-value-eq1
 returns-then-value-eq1 c =
-    let word = c.in_ok-word.ensures in
+    let word = c.in_ok-next.ensures in
     let line = c.in_ok-line.ensures in
-    twice_named c.loop.invariant c.loop-test.true c.requires.1 word.split line.0 line.1 (sym c.value.ensures ∙ c.if-value-eq1.true)
+    twice_named c.loop.invariant c.loop-test.true c.requires.1 word.steps line.0 line.1 (sym c.value.ensures ∙ c.if-value-eq1.true)
 
 pub loop-preserved : goal.loop-preserved
 loop-preserved c =
-    let word = c.in_ok-word.ensures in
+    let word = c.in_ok-next.ensures in
     let line = c.in_ok-line.ensures in
-    rw c.flip-mask.ensures (control_more c.loop.invariant c.loop-test.true c.requires.1 word.split line.0 line.1
+    rw c.flip-mask.ensures (control_more c.loop.invariant c.loop-test.true c.requires.1 word.steps line.0 line.1
     (λ e. c.if-value-eq1.false (c.value.ensures ∙ e)))
 
 pub returns : goal.returns

@@ -5,4 +5,4 @@ use Rattle.real_gates.proofs.ControlLaws.{Reading}
 use Rattle.real_gates.proofs.read_controls.Given as goal
 
 abbrev pub invariant-loop : goal.invariant-loop
-invariant-loop l = Reading (names_in l.names) (words_of l.rest) (words_of l.left) l.mask l.counter
+invariant-loop l = Reading (names_in l.names) (words_of l.initial.left.rest.now) (words_of l.left.rest.now) l.mask l.counter
