@@ -3,7 +3,7 @@ ghost use Rattle.std.specs.Prelude.{◌≡◌, [], ◌∷◌, ◌++◌, not, ◌
 ghost use Rattle.refusals.specs.Tables.{first_of};
 ghost use Rattle.refusals.specs.Tables.Row.{refuse◌at◌when◌};
 ghost use Rattle.refusals.specs.Answers.{fine, found};
-ghost use Rattle.refusals.specs.Places.{in_word};
+ghost use Rattle.refusals.specs.Places.{in_word, some_place};
 ghost use Rattle.circuit.specs.Limits.{most_lines, most_gates, most_vectors};
 ghost use Rattle.circuit.specs.Rules.{bad_lines, bad_counts, bad_gate, first_bad_gate, first_bad_vector};
 ghost use Rattle.circuit.specs.Rules.{circuit_set_rows, circuit_rows, set_rows, vector_rows, run_rows};
@@ -35,39 +35,69 @@ pub fn bad_gate(lines: u32, gate: Gate) -> bool
     requires { lines ≤ most_lines }
     ensures { result ≡ bad_gate lines gate }
 {
-    !words::checked::below(gate.controls, lines)
-        || gate.spare != 0
-        || lines <= gate.target
-        || checked::is_control(gate, gate.target)
+    // In one condition with these, the last would cost a shift more a gate.
+    if !words::checked::below(gate.controls, lines) || gate.spare != 0 || lines <= gate.target {
+        return true;
+    }
+    checked::is_control(gate, gate.target)
 }
 
-// Rule 7: the first bad gate; words left over are one more.
+// The number of the first bad gate, if any is; words left over are one more bad gate.
+pub fn first_bad_gate(lines: u32, gates: &[u32]) -> Option<usize>
+    requires { lines ≤ most_lines }
+    ensures { result ≡ some_place (first_bad_gate lines gates.now) }
+{
+    let whole = gates.len() / 3;
+    for i in 0..whole {
+        let number = i + 1;
+        if bad_gate(lines, checked::gate_at(gates, numbers::gate(number))) {
+            return Some(number);
+        }
+    }
+    if gates.len() % 3 != 0 {
+        Some(whole + 1)
+    } else {
+        None
+    }
+}
+
+// Rule 7: the first bad gate.
+#[tactic(auto, using(refusals::proofs::Places::told_some, refusals::proofs::Places::told_where_none))]
 pub fn check_gates(lines: u32, gates: &[u32]) -> Result<(), Refusal>
     requires { lines ≤ most_lines }
     ensures { found result ≡ first_of
         (refuse 7 at in_word (first_bad_gate lines gates.now) when not (eqb (first_bad_gate lines gates.now) 0) ∷ []) fine }
 {
-    let whole = gates.len() / 3;
-    for i in 0..whole {
-        if bad_gate(lines, checked::gate_at(gates, numbers::gate(i + 1))) {
-            return Err(Refusal::Gate(in_word(i + 1)));
-        }
+    match first_bad_gate(lines, gates) {
+        Some(number) => Err(Refusal::Gate(in_word(number))),
+        None => Ok(()),
     }
-    refuse_when(gates.len() % 3 != 0, Refusal::Gate(in_word(whole + 1)))
 }
 
-// Rule 8 of the vectors of a set: the first of 2 ^ n or more.
+// The place of the first vector of 2 ^ n or more, if any is.
+pub fn first_bad_vector(lines: u32, vectors: &[u32]) -> Option<usize>
+    requires { lines ≤ most_lines }
+    ensures { result ≡ some_place (first_bad_vector lines vectors.now) }
+{
+    for i in 0..vectors.len() {
+        if !words::checked::below(vectors[i], lines) {
+            return Some(i + 1);
+        }
+    }
+    None
+}
+
+// Rule 8 of the vectors of a set: the first bad one.
+#[tactic(auto, using(refusals::proofs::Places::told_some, refusals::proofs::Places::told_where_none))]
 pub fn check_vectors(lines: u32, vectors: &[u32]) -> Result<(), Refusal>
     requires { lines ≤ most_lines }
     ensures { found result ≡ first_of
         (refuse 8 at in_word (first_bad_vector lines vectors.now) when not (eqb (first_bad_vector lines vectors.now) 0) ∷ []) fine }
 {
-    for i in 0..vectors.len() {
-        if !words::checked::below(vectors[i], lines) {
-            return Err(Refusal::Vector(in_word(i + 1)));
-        }
+    match first_bad_vector(lines, vectors) {
+        Some(place) => Err(Refusal::Vector(in_word(place))),
+        None => Ok(()),
     }
-    Ok(())
 }
 
 // The rules of a circuit with a set of so many vectors.

@@ -42,16 +42,6 @@ unfolding bad_record fault_rows
 record_told n words f (Ok a) e = sym (ap not (fault_ok n words f e))
 record_told n words f (Err q) e = bad_row (not (is_fault n (gates_of words) f)) _ _ e
 
-pub rows_at : (bad i : ℕ) → bad ≡ i + 1 → refused 9 (in_word (i + 1)) ≡ first_of (record_rows bad) fine
-unfolding record_rows
-rows_at bad i e = rw (e, ne_eqb (i + 1) 0 (λ z. absurd (omega arith)))
-
-pub rows_after : (over : Bool) (bad i : ℕ) → bad ≡ choice over (i + 1) 0
-    → choice over (refused 9 (in_word (i + 1))) fine ≡ first_of (record_rows bad) fine
-unfolding record_rows
-rows_after true bad i e = rows_at bad i e
-rows_after false bad i e = rw e
-
 good_record : (n : ℕ) (gs : List Gate) (f : Fault) → bad_record n gs f ≡ false → is_fault n gs f ≡ true
 unfolding bad_record
 good_record n gs f e = not-false _ e

@@ -1,7 +1,7 @@
 // The rules of dropping.
 ghost use Rattle.std.specs.Prelude.{◌≡◌, ◌++◌, IfOk};
 ghost use Rattle.refusals.specs.Tables.{first_of};
-ghost use Rattle.refusals.specs.Places.{first_bad};
+ghost use Rattle.refusals.specs.Places.{first_bad, some_place};
 ghost use Rattle.refusals.specs.Answers.{fine, found};
 ghost use Rattle.circuit.specs.Gates.{gates_of};
 ghost use Rattle.circuit.specs.Rules.{circuit_rows, vector_rows};
@@ -12,24 +12,37 @@ use crate::entries::Entry;
 use circuit::checked::Circuit;
 use circuit::rules::check_vector;
 use faults::rules::check_fault;
-use refusals::{Refusal, refuse_when};
+use refusals::Refusal;
 
-// Rule 9 of a list: the first record that is no fault of the circuit; numbers left over are one more.
-pub fn check_records<E: Entry>(circuit: &Circuit, list: &[E]) -> Result<(), Refusal>
-    ensures { found result ≡ first_of
-        (record_rows (first_bad (bad_record circuit.now.lines (gates_in circuit.now)) (E.is_over list.now) (E.records list.now))) fine }
+// The place of the first record of a list that is no fault of the circuit, if any is; numbers left over are one more bad record.
+pub fn first_bad_record<E: Entry>(circuit: &Circuit, list: &[E]) -> Option<usize>
+    ensures { result ≡ some_place
+        (first_bad (bad_record circuit.now.lines (gates_in circuit.now)) (E.is_over list.now) (E.records list.now)) }
 {
     let whole = E::count(list);
     for i in 0..whole {
         let bad = check_fault(circuit, E::read(list, i)).is_err();
         if bad {
-            return Err(Refusal::Fault(refusals::in_word(i + 1)));
+            return Some(i + 1);
         }
     }
-    refuse_when(
-        E::is_over(list),
-        Refusal::Fault(refusals::in_word(whole + 1)),
-    )
+    if E::is_over(list) {
+        Some(whole + 1)
+    } else {
+        None
+    }
+}
+
+// Rule 9 of a list: the first bad record.
+#[tactic(auto, using(refusals::proofs::Places::told_some, refusals::proofs::Places::told_where_none), unfolding(crate::specs::Rules::record_rows))]
+pub fn check_records<E: Entry>(circuit: &Circuit, list: &[E]) -> Result<(), Refusal>
+    ensures { found result ≡ first_of
+        (record_rows (first_bad (bad_record circuit.now.lines (gates_in circuit.now)) (E.is_over list.now) (E.records list.now))) fine }
+{
+    match first_bad_record(circuit, list) {
+        Some(place) => Err(Refusal::Fault(refusals::in_word(place))),
+        None => Ok(()),
+    }
 }
 
 // The rules of a circuit, a vector and a list.

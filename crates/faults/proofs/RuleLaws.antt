@@ -16,6 +16,7 @@ use Rattle.refusals.specs.Tables.Told.{refused}
 use Rattle.refusals.specs.Answers.{fine, number_of, place_of}
 use Rattle.refusals.specs.declared.Refusal.{Refusal}
 use Rattle.refusals.specs.declared.Refusal.TheVariants as refusal
+use Rattle.refusals.proofs.Clashes.{refused-answered}
 use Rattle.refusals.proofs.Tables.{fine_row}
 use Rattle.circuit.specs.Gates.{gates_of, gate_at}
 use Rattle.circuit.specs.Controls.{is_control, is_other}
@@ -166,6 +167,13 @@ class_refused n words f r e =
     let none = class_none n (gates_of words) f (λ q. true≢false (sym (eq-eqb f.class 1 q) ∙ a)) (λ q. true≢false (sym (eq-eqb f.class 2 q) ∙ b))
     (λ q. true≢false (sym (eq-eqb f.class 3 q) ∙ c)) (λ q. true≢false (sym (eq-eqb f.class 4 q) ∙ d)) in
     rw (is, none) refl))))
+
+-- so the number of a fault of the circuit is one
+pub class_there : (n : ℕ) (words : List ℕ) (f : Fault) (r : Refusal) → is_fault n (gates_of words) f ≡ true → Err r ≡ class_of f.class → ⊥
+unfolding fault_rows
+class_there n words f r is e =
+    let passed : refused (number_of r) (place_of r) ≡ fine = class_refused n words f r e ∙ rw is refl in
+    refused-answered passed
 
 -- ---- calls whose rules none is broken
 

@@ -5,7 +5,8 @@ ghost use Rattle.faults.specs.Rules.{is_fault};
 ghost use Rattle.faults.specs.Kinds.{class_number};
 
 use crate::Fault;
-use crate::classes::{Class, GateClass};
+use crate::classes::Class;
+use crate::rules::check_class;
 use circuit::checked::Circuit;
 
 #[derive(Clone, Copy)]
@@ -17,15 +18,13 @@ pub struct KnownFault<'a> {
 
 impl<'a> KnownFault<'a> {
     // Its class, which is one of the four.
-    #[tactic(auto, using(crate::proofs::RuleLaws::class_last))]
+    #[tactic(auto, using(crate::proofs::RuleLaws::class_known, crate::proofs::RuleLaws::class_there))]
     pub fn class(&self) -> Class
         ensures { self.now.fault.class ≡ class_number result }
     {
-        match self.fault.class {
-            1 => Class::StuckAt,
-            2 => Class::AtGate(GateClass::MissingGate),
-            3 => Class::AtGate(GateClass::MissingControl),
-            _ => Class::AtGate(GateClass::ExtraControl),
+        match check_class(self.fault.class) {
+            Ok(class) => class,
+            Err(_) => unreachable!(),
         }
     }
 }

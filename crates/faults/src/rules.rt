@@ -91,8 +91,9 @@ pub fn check_class(class: u32) -> Result<Class, Refusal>
     }
 }
 
-// Whether a circuit has a fault of the class that its record names.
+// Whether a circuit has a fault of the class that its record names. Inlined as its caller is.
 #[tactic(auto, using(crate::proofs::RuleLaws::class_one, crate::proofs::RuleLaws::class_two, crate::proofs::RuleLaws::class_three, crate::proofs::RuleLaws::class_four))]
+#[inline(always)]
 fn has(circuit: &Circuit, class: Class, fault: Fault) -> bool
     requires { fault.class ≡ class_number class }
     ensures { result ≡ is_fault circuit.now.lines (gates_in circuit.now) fault }
@@ -105,8 +106,9 @@ fn has(circuit: &Circuit, class: Class, fault: Fault) -> bool
     }
 }
 
-// Rule 9 of a fault that is asked alone.
+// Rule 9 of a fault that is asked alone. Inlined, so that what it hands on takes no place on the stack.
 #[tactic(auto, using(crate::proofs::RuleLaws::class_known, crate::proofs::RuleLaws::class_refused, crate::proofs::RuleLaws::fault_ok), unfolding(crate::specs::Rules::fault_rows))]
+#[inline(always)]
 pub fn check_fault<'a>(circuit: &Circuit<'a>, fault: Fault) -> Result<KnownFault<'a>, Refusal>
     ensures rules { found result ≡ first_of (fault_rows circuit.now.lines circuit.now.gates.now fault) fine }
     ensures known { IfOk result (IsKnown circuit.now fault) }

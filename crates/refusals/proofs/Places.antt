@@ -13,8 +13,9 @@ use Rattle.basics.specs.Choice.{choice}
 use Rattle.basics.specs.Lists.{All}
 use borrow.Author.Tests.{ne_eqb}
 use mathlib.Core.Bool.{not}
+use Rattle.std.specs.Prelude.{Option, Some, None}
 use lib.Dec.{eqb}
-use Rattle.refusals.specs.Places.{first_bad_from, in_word}
+use Rattle.refusals.specs.Places.{first_bad_from, in_word, some_place}
 use Rattle.refusals.specs.Tables.{Told}
 use Rattle.refusals.specs.Tables.Told.{refused}
 use Rattle.refusals.specs.Answers.{fine}
@@ -48,6 +49,28 @@ pub told_after : (leftOver : Bool) (number place i : ℕ) → place ≡ choice l
     → choice leftOver (refused number (in_word (i + 1))) fine ≡ rule_told number place
 told_after true number place i e = told_at number place i e
 told_after false number place i e = told_none number place e
+
+-- a place as code has it: there is one, or none
+pub some_at : (place i : ℕ) → place ≡ i + 1 → Some (i + 1) ≡ some_place place
+some_at place i e = rw (e, ne_eqb (i + 1) 0 (λ z. absurd (omega arith)))
+
+pub none_at : (place : ℕ) → place ≡ 0 → None ≡ some_place place
+none_at place e = rw e
+
+-- and what a rule tells of it
+some_is : (none : Bool) (place here : ℕ) → Some here ≡ choice none None (Some place) → (none ≡ false) × (here ≡ place)
+some_is true place here e = let z : ◌≡◌ {A = ℕ} 0 1 = cc in absurd (omega arith)
+some_is false place here e = (refl, cc)
+
+none_is : (none : Bool) (place : ℕ) → None ≡ choice none None (Some place) → none ≡ true
+none_is true place e = refl
+none_is false place e = let z : ◌≡◌ {A = ℕ} 0 1 = cc in absurd (omega arith)
+
+pub told_some : (number place here : ℕ) → Some here ≡ some_place place → refused number (in_word here) ≡ rule_told number place
+told_some number place here e = let w = some_is (eqb place 0) place here e in rw (w.0, w.1)
+
+pub told_where_none : (number place : ℕ) → None ≡ some_place place → fine ≡ rule_told number place
+told_where_none number place e = rw (none_is (eqb place 0) place e)
 
 module _ {ℓ} {A : Type ℓ} (bad : A → Bool) (leftOver : Bool) where
   -- at place i + 1 of the list: a bad entry, a good one, and the end

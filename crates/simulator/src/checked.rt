@@ -115,7 +115,8 @@ fn catches_changed(known: &KnownFault, other: Option<Gate>, vector: u32) -> bool
     step_of(other, state) != made
 }
 
-// Whether a vector catches a fault, by what each class changes at one level.
+// Whether a vector catches a fault, by what each class changes at one level. Inlined, so that the fault takes no place on the stack.
+#[inline(always)]
 pub fn catches(known: &KnownFault, vector: u32) -> bool
     ensures { result ≡ caught (gates_in known.now.circuit) known.now.fault vector }
 {

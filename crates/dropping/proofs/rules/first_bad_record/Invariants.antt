@@ -1,10 +1,10 @@
--- `dropping::rules::check_records` meets its contract: each turn passes a fault, so that the first bad record of what is left is that of the whole.
+-- `dropping::rules::first_bad_record` meets its contract: each turn passes a fault, so that the first bad record of what is left is that of the whole.
 -- Assumes nothing.
 use Rattle.std.proofs.Common.{◌≡◌, ◌+◌, drop}
 use Rattle.refusals.specs.Places.{first_bad, first_bad_from}
 use Rattle.circuit.specs.Checked.{gates_in}
 use Rattle.dropping.specs.Rules.{bad_record}
-use Rattle.dropping.proofs.rules.check_records.Given as goal
+use Rattle.dropping.proofs.rules.first_bad_record.Given as goal
 
 abbrev pub invariant-loop-i : goal.invariant-loop-i
 invariant-loop-i g l =

@@ -1,10 +1,10 @@
--- `circuit::rules::check_gates` meets its contract: each turn passes a good gate, so that the first bad one of what is left is that of the whole.
+-- `circuit::rules::first_bad_gate` meets its contract: each turn passes a good gate, so that the first bad one of what is left is that of the whole.
 -- Assumes nothing.
 use Rattle.std.proofs.Common.{◌≡◌, ◌+◌, ◌%◌, not, eqb, length, drop}
 use Rattle.refusals.specs.Places.{first_bad_from}
 use Rattle.circuit.specs.Gates.{gates_of}
 use Rattle.circuit.specs.Rules.{bad_gate, first_bad_gate}
-use Rattle.circuit.proofs.rules.check_gates.Given as goal
+use Rattle.circuit.proofs.rules.first_bad_gate.Given as goal
 
 abbrev pub invariant-loop-i : goal.invariant-loop-i
 invariant-loop-i l =
