@@ -1,13 +1,13 @@
 -- Laws of names as numbers: a key tells its name, so the place of a name's key is the name's place.
-use Rattle.std.specs.Prelude.{ℕ, zero, suc, ◌+◌, ◌-◌, ◌*◌, ◌<◌, ◌≤◌, ◌≡◌, refl, true, false, ◌&&◌, ◌||◌, eqb, leb}
+use Rattle.std.specs.Prelude.{ℕ, zero, suc, ◌+◌, ◌-◌, ◌*◌, ◌^◌, ◌<◌, ◌≤◌, ◌≡◌, refl, true, false, ◌&&◌, ◌||◌, eqb, leb}
 use Rattle.std.specs.Prelude.{Option, Some, None, MatchOption, List, [], ◌∷◌, ◌++◌, map, length, take, drop}
 use Rattle.std.specs.Borrow.{Bor}
-use Rattle.std.specs.Int.{w64, from_le_bytes}
 use Rattle.std.specs.List.{position, position_or_len}
 use Rattle.std.proofs.Common.{ap, ap₂, sym, ◌∙◌, arith, add-one}
-use Rattle.std.proofs.Common.{get_or, set, replicate, drop-cons, drop_of_length-le, take-suc, take-suc-set, take-take, take_all}
+use Rattle.std.proofs.Common.{get_or, set, drop-cons, take-suc, take-suc-set, take-take, take_all}
 use Rattle.std.proofs.lemmas.Bool.{eq-eqb, ne_eqb, eqb-true, eqb-false, leb-true, false≢true}
-use Rattle.std.proofs.lemmas.List.{length-append, length-drop, length-map, map-append}
+use Rattle.std.proofs.lemmas.List.{append-nil, append_assoc, get_or-append_right, length-append, length-drop, length-map, map-append, nil_from_length}
+use lib.Pow.{pow-add, pow_mono}
 use lib.Pointwise.{pointwise}
 use Rattle.basics.proofs.Tests.{by_test, and_both}
 use Rattle.text.specs.Texts.{every, same, place}
@@ -18,42 +18,49 @@ use Rattle.text_words.proofs.PlaceLaws.{placed}
 use Rattle.real.specs.Form.{Word, is_letter, is_name_byte, is_name}
 use Rattle.real_gates.specs.Keys.{key_of, AreKeys}
 
--- ---- the key of a word is what its bytes make, with zeros up to eight
+-- ---- the key of a word, from its last byte on, eight bits a byte
 
-key_at : (word : Word) (i : ℕ) → key_of (drop i word) ≡ get_or word i 0 + 256 * key_of (drop (suc i) word)
+pub record Keying (word left : Word) (key : ℕ) : Type 0 where
+  pub tail : Word
+  pub whole : word ≡ left ++ tail
+  pub is : key ≡ key_of tail
+  pub below : key < 2 ^ (8 * length tail)
+
+pub keying_none : {word left : Word} → left ≡ word → Keying word left 0
 unfolding key_of
-key_at [] zero = refl
-key_at [] (suc i) = refl
-key_at (b ∷ word) zero = refl
-key_at (b ∷ word) (suc i) = key_at word i
+keying_none {word} {left} e = record { tail = []; whole = sym (append-nil left ∙ e); is = refl; below = omega arith }
 
-key_end : (word : Word) (i : ℕ) → length word ≤ i → key_of (drop i word) ≡ 0
-unfolding key_of
-key_end word i h = ap key_of (drop_of_length-le word {i = i} h)
+module _ {word left : Word} {key : ℕ} (so_far : Keying word left key) (front : Word) (byte : ℕ) (e : left ≡ front ++ (byte ∷ [])) where
+  split : word ≡ front ++ (byte ∷ so_far.tail)
+  split = so_far.whole ∙ rw e (append_assoc front (byte ∷ []) so_far.tail)
 
-eight_read : (word : Word) → length word ≤ 8 → from_le_bytes w64 word ≡ key_of word
-eight_read word h =
-    let at = key_at word in
-    omega (arith, at 0, at 1, at 2, at 3, at 4, at 5, at 6, at 7, key_end word 8 h)
+  pub byte_at : get_or word (length front) 0 ≡ byte
+  byte_at =
+      let none : length front - length front ≡ 0 = omega arith in
+      rw split (get_or-append_right front (byte ∷ so_far.tail) (length front) (length front) 0 refl (omega arith) ∙ rw none refl)
 
-key_zeros : (i n : ℕ) → key_of (drop i (replicate n 0)) ≡ 0
-unfolding key_of
-key_zeros zero zero = refl
-key_zeros zero (suc n) = let e = key_zeros zero n in omega arith
-key_zeros (suc i) zero = refl
-key_zeros (suc i) (suc n) = key_zeros i n
+  -- there is room for one byte more
+  pub key_room : length word ≤ 8 → key < 2 ^ 56
+  key_room h =
+      let b = so_far.below in
+      let y = ap length split in
+      let m : 8 * length so_far.tail ≤ 56 = omega (arith, length-append front (byte ∷ so_far.tail)) in
+      omega (arith, pow_mono {i = 8 * length so_far.tail} {j = 56} m)
 
-key_padded : (word zeros : Word) → key_of zeros ≡ 0 → key_of (word ++ zeros) ≡ key_of word
-unfolding key_of
-key_padded [] zeros e = e
-key_padded (b ∷ word) zeros e = ap (λ key. b + 256 * key) (key_padded word zeros e)
+  pub keying_more : byte < 256 → Keying word front (key * 256 + byte)
+  unfolding key_of
+  keying_more h =
+      let b = so_far.below in
+      let g : 8 * suc (length so_far.tail) ≡ 8 * length so_far.tail + 8 = omega arith in
+      record {
+        tail = byte ∷ so_far.tail;
+        whole = split;
+        is = omega (arith, so_far.is);
+        below = rw g (omega (arith, pow-add 2 (8 * length so_far.tail) 8));
+      }
 
-pub key_read : (word : Word) → length word ≤ 8 → from_le_bytes w64 (word ++ drop (length word) (replicate 8 0)) ≡ key_of word
-key_read word h =
-    let zeros : Word = drop (length word) (replicate 8 0) in
-    let many : length zeros ≡ 8 - length word = length-drop (length word) (replicate {A = ℕ} 8 0) in
-    let whole : length (word ++ zeros) ≤ 8 = omega (arith, length-append word zeros) in
-    eight_read (word ++ zeros) whole ∙ key_padded word zeros (key_zeros (length word) 8)
+pub keyed : {word left : Word} {key : ℕ} → Keying word left key → length left ≡ 0 → key ≡ key_of word
+keyed {word} {left} k e = k.is ∙ ap key_of (sym (k.whole ∙ ap (λ l. l ++ k.tail) (nil_from_length left e)))
 
 -- ---- a key tells its name
 

@@ -23,9 +23,11 @@ fn key(word: &[u8]) -> u64
     requires { length word.now ≤ 8 }
     ensures { result ≡ key_of word.now }
 {
-    let mut bytes = [0; 8];
-    bytes[..word.len()].copy_from_slice(word);
-    u64::from_le_bytes(bytes)
+    let mut key = 0;
+    for byte in word.iter().rev() {
+        key = key * 256 + *byte as u64;
+    }
+    key
 }
 
 impl<'a, 'room> Names<'a, 'room> {
@@ -50,6 +52,7 @@ impl<'a, 'room> Names<'a, 'room> {
     }
 
     // How many names stand before a word, if it is one of them.
+    #[inline(never)]
     #[tactic(auto, using(crate::proofs::KeyLaws::no_name_place, crate::proofs::KeyLaws::name_length))]
     pub fn place(&self, word: &[u8]) -> Option<usize>
         ensures { IsPlace (names_in self.now) word.now result }

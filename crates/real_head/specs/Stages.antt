@@ -1,8 +1,9 @@
 -- What the code's stages mean: each is a stage of the form, with the words of what was read.
-use Rattle.std.specs.Prelude.{ℕ, ◌+◌, ◌≤◌, ◌≡◌, Bool, true, false, ◌&&◌, Option, Some, None, Result, Ok, Err, List, [], ◌∷◌, length}
+use Rattle.std.specs.Prelude.{ℕ, ◌+◌, ◌-◌, ◌≤◌, ◌≡◌, Bool, true, false, ◌&&◌, Option, Some, None, Result, Ok, Err, List, [], ◌∷◌, length, drop}
 use Rattle.text.specs.Texts.{ascii, every, same, distinct}
 use Rattle.text.specs.Decimal.{decimal}
 use Rattle.text_words.specs.Words.{lines_of, words_of}
+use Rattle.text_words.specs.Runs.{IsPart}
 use Rattle.real.specs.Form.{Word, Stage, Step, is_name}
 use Rattle.real.specs.Form.Stage.{start, versioned, counted, named, begun}
 use Rattle.real.specs.Form.Step.{goes, stops}
@@ -49,8 +50,30 @@ parts_step names (Some parts) = goes (named names (parts_in parts))
 abbrev pub is_variables : Word → Word → List Word → Bool
 is_variables number word more = same word (ascii ".variables") && (every is_name more && (distinct more && same number (decimal (length more))))
 
--- the head ends with .begin: its names, and what is left of the text, with the number of the first line of it
+-- what was read stands in the text
+abbrev pub InText : List ℕ → Due → Type 0
+InText text due.Version = Unit {0}
+InText text due.Numvars = Unit {0}
+InText text (due.Variables number) = IsPart text number.now
+InText text (due.Part names parts) = IsPart text names.line.now
+
+abbrev pub InTurn : List ℕ → Option Turn → Type 0
+InTurn text None = Unit {0}
+InTurn text (Some (turn.Goes d)) = InText text d
+InTurn text (Some (turn.Begins names)) = IsPart text names.line.now
+
+-- what a turn tells stands in each text in which this slice of it does
+abbrev pub TakenFrom : List ℕ → Option Turn → Type 0
+TakenFrom slice t = (text : List ℕ) → IsPart text slice → InTurn text t
+
+-- the same with what was read so far
+abbrev pub LedFrom : Due → List ℕ → Option Turn → Type 0
+LedFrom d slice t = (text : List ℕ) → InText text d → IsPart text slice → InTurn text t
+
+-- the head ends with .begin: its names, which stand in the text, and what is left of the text, with the number of the first line of it
 pub record Begins (text : List ℕ) (head : Head) : Type 0 where
+  pub names : IsPart text head.names.line.now
+  pub ends : head.rest.now ≡ drop (length text - length head.rest.now) text
   pub counted : head.line + length head.rest.now ≤ length text + 1
   pub read : reading text ≡ read_from head.line (begun (words_of head.names.line.now)) (lines_of head.rest.now)
 

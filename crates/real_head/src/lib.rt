@@ -8,7 +8,7 @@ ghost use Rattle.text.specs.Texts.{ascii, same};
 ghost use Rattle.text_words.specs.Words.{words_of};
 ghost use Rattle.real.specs.Form.{is_constants, next, step_of};
 ghost use Rattle.real.specs.Form.Stage.{versioned, counted, named};
-ghost use Rattle.real_head.specs.Stages.{parts_in, stage_of, parts_step, turn_step, is_variables, HeadRead};
+ghost use Rattle.real_head.specs.Stages.{parts_in, stage_of, parts_step, turn_step, is_variables, TakenFrom, LedFrom, HeadRead};
 
 use crate::names::NameLine;
 use real::spelling;
@@ -65,9 +65,10 @@ impl From<FaultyLine> for Refusal {
 }
 
 // .numvars and one number.
-#[tactic(auto, using(text::proofs::SameLaws::same_is_pointwise), unfolding(text::specs::Texts::ascii, real::specs::Form::next))]
+#[tactic(auto, using(text::proofs::SameLaws::same_is_pointwise, text_words::proofs::PartLaws::part_in), unfolding(text::specs::Texts::ascii, real::specs::Form::next))]
 fn numvars<'a>(word: &[u8], rest: &'a [u8]) -> Option<Turn<'a>>
-    ensures { turn_step result ≡ next versioned word.now (words_of rest.now) }
+    ensures step { turn_step result ≡ next versioned word.now (words_of rest.now) }
+    ensures within { TakenFrom rest.now result }
 {
     if word != b".numvars".as_slice() {
         return None;
@@ -84,17 +85,18 @@ fn numvars<'a>(word: &[u8], rest: &'a [u8]) -> Option<Turn<'a>>
 fn is_variables(number: &[u8], word: &[u8], rest: &[u8]) -> bool
     ensures { result ≡ is_variables number.now word.now (words_of rest.now) }
 {
+    if word != b".variables".as_slice() || !spelling::all_names(rest) {
+        return false;
+    }
     let count = runs::count_words(rest);
-    word == b".variables".as_slice()
-        && spelling::all_names(rest)
-        && same::distinct(rest, count)
-        && same::is_decimal(number, count)
+    same::distinct(rest, count) && same::is_decimal(number, count)
 }
 
 // .variables and its names: any optional part may come.
 #[tactic(auto, unfolding(real::specs::Form::next, real::specs::Form::optional_parts, crate::specs::Stages::parts_in))]
 fn variables<'a>(number: &[u8], word: &[u8], rest: &'a [u8]) -> Option<Turn<'a>>
-    ensures { turn_step result ≡ next (counted number.now) word.now (words_of rest.now) }
+    ensures step { turn_step result ≡ next (counted number.now) word.now (words_of rest.now) }
+    ensures within { TakenFrom rest.now result }
 {
     if !is_variables(number, word, rest) {
         return None;
@@ -153,7 +155,8 @@ fn parts_after(parts: Parts, names: &[u8], word: &[u8], rest: &[u8]) -> Option<P
 // .begin, or an optional part.
 #[tactic(auto, unfolding(text::specs::Texts::ascii, real::specs::Form::next))]
 fn part<'a>(names: NameLine<'a>, parts: Parts, word: &[u8], rest: &[u8]) -> Option<Turn<'a>>
-    ensures { turn_step result ≡ next (named (words_of names.entry.line.now) (parts_in parts)) word.now (words_of rest.now) }
+    ensures step { turn_step result ≡ next (named (words_of names.entry.line.now) (parts_in parts)) word.now (words_of rest.now) }
+    ensures within { TakenFrom names.entry.line.now result }
 {
     if spelling::alone(word, rest, b".begin") {
         return Some(Turn::Begins(names));
@@ -163,9 +166,10 @@ fn part<'a>(names: NameLine<'a>, parts: Parts, word: &[u8], rest: &[u8]) -> Opti
 }
 
 // A line of a first word and more.
-#[tactic(auto, using(text::proofs::SameLaws::same_is_pointwise), unfolding(text::specs::Texts::ascii, real::specs::Form::next))]
+#[tactic(auto, using(text::proofs::SameLaws::same_is_pointwise, crate::proofs::LineLaws::version_within), unfolding(text::specs::Texts::ascii, real::specs::Form::next))]
 fn due_turn<'a>(due: Due<'a>, word: &[u8], rest: &'a [u8]) -> Option<Turn<'a>>
-    ensures { turn_step result ≡ next (stage_of due.entry) word.now (words_of rest.now) }
+    ensures step { turn_step result ≡ next (stage_of due.entry) word.now (words_of rest.now) }
+    ensures within { LedFrom due.entry rest.now result }
 {
     match due {
         Due::Version => (word == b".version".as_slice()).then_some(Turn::Goes(Due::Numvars)),
@@ -178,7 +182,8 @@ fn due_turn<'a>(due: Due<'a>, word: &[u8], rest: &'a [u8]) -> Option<Turn<'a>>
 // One line.
 #[tactic(auto, using(crate::proofs::LineLaws::head_due, crate::proofs::LineLaws::first_byte), unfolding(real::specs::Form::step_of, real::specs::Form::step_with))]
 fn line_turn<'a>(due: Due<'a>, line: &'a [u8]) -> Option<Turn<'a>>
-    ensures { turn_step result ≡ step_of (stage_of due.entry) line.now }
+    ensures step { turn_step result ≡ step_of (stage_of due.entry) line.now }
+    ensures within { LedFrom due.entry line.now result }
 {
     let Some((word, rest)) = runs::next_word(line) else {
         return Some(Turn::Goes(due));

@@ -4,3 +4,4 @@ pub mod RunLaws
 pub mod DigitLaws
 pub mod PlaceLaws
 pub mod WordsLaws
+pub mod PartLaws

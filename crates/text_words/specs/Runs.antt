@@ -25,6 +25,12 @@ pub record IsFirstWord (line word rest : List ℕ) : Type 0 where
   pub within : length word + length rest ≤ length line
   pub ends : word ++ rest ≡ drop (length line - (length word + length rest)) line
 
+-- a slice stands in a text, between two parts of it
+pub record IsPart (text slice : List ℕ) : Type 0 where
+  pub front : List ℕ
+  pub back : List ℕ
+  pub whole : text ≡ front ++ (slice ++ back)
+
 -- the place of the first of some texts that is the same as a text, or none
 abbrev pub IsPlace : List (List ℕ) → List ℕ → Option ℕ → Type 0
 IsPlace texts t found = MatchOption found (place texts t ≡ length texts) (λ i. (i ≡ place texts t) × (i < length texts))

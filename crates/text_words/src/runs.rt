@@ -1,8 +1,8 @@
 // The lines of a text and the words of a line, one after the other: each with what follows it.
-ghost use Rattle.std.specs.Prelude.{◌≡◌, ◌≢◌, ◌≤◌, length, [], ◌∷◌, MatchOption};
+ghost use Rattle.std.specs.Prelude.{◌≡◌, ◌≢◌, ◌≤◌, length, [], ◌∷◌, MatchOption, IfSome};
 ghost use Rattle.std.specs.Iterator.{YieldsFirstRef, item_count};
 ghost use Rattle.text_words.specs.Words.{is_blank, lines_of, words_of};
-ghost use Rattle.text_words.specs.Runs.{IsFirstLine, IsFirstWord};
+ghost use Rattle.text_words.specs.Runs.{IsFirstLine, IsFirstWord, IsPart};
 
 // The words of a line that are still to come.
 #[derive(Drop)]
@@ -74,8 +74,10 @@ pub fn count_words(line: &[u8]) -> usize
 }
 
 // The word of a line that has no other.
+#[tactic(auto, using(crate::proofs::PartLaws::word_part))]
 pub fn only_word(line: &[u8]) -> Option<&[u8]>
-    ensures { MatchOption result (length (words_of line.now) ≢ 1) (λ word. words_of line.now ≡ word.now ∷ []) }
+    ensures only { MatchOption result (length (words_of line.now) ≢ 1) (λ word. words_of line.now ≡ word.now ∷ []) }
+    ensures part { IfSome result (λ word. IsPart line.now word.now) }
 {
     let (word, rest) = next_word(line)?;
     if next_word(rest).is_some() {
