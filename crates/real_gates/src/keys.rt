@@ -51,7 +51,7 @@ impl<'a, 'room> Names<'a, 'room> {
         }
     }
 
-    // How many names stand before a word, if it is one of them.
+    // How many names stand before a word, if it is one of them. Not inlined: in a caller its loops would find no register free.
     #[inline(never)]
     #[tactic(auto, using(crate::proofs::KeyLaws::no_name_place, crate::proofs::KeyLaws::name_length))]
     pub fn place(&self, word: &[u8]) -> Option<usize>

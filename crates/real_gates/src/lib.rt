@@ -67,7 +67,6 @@ fn all_declared(names: &Names, line: &[u8]) -> bool
 }
 
 // The words of a gate of any circuit: whether they are one, and of at most 32 lines which.
-#[inline(never)]
 pub fn gate_of(names: &Names, rest: &[u8], words: usize) -> Option<Gate>
     requires { (1 ≤ words) × (words ≡ length (words_of rest.now)) }
     ensures { GateRead (names_in names.now) (words_of rest.now) result }

@@ -94,7 +94,8 @@ fn line_turn(
     }
 }
 
-// The lines after .begin; `first` is the number of the first.
+// The lines after .begin; `first` is the number of the first. Not inlined, so that its loops have the registers.
+#[inline(never)]
 fn read_gates(names: &Names, text: &[u8], first: usize, own: &mut [u32]) -> Result<Form, Refusal>
     requires { first + length text.now ≤ 2 ^ 63 }
     ensures { FormRead (read_from first (begun (names_in names.now)) (lines_of text.now)) result own.new }
