@@ -1,9 +1,9 @@
 -- Laws of lists that are joined: in two parts, entry by entry, kept by a test, and their length.
-use Rattle.std.specs.Prelude.{ℕ, zero, suc, ◌+◌, ◌*◌, ◌<◌, ◌≤◌, ◌≡◌, refl, Bool, List, [], ◌∷◌, ◌++◌, length, get_or, take, drop}
+use Rattle.std.specs.Prelude.{ℕ, ◌+◌, ◌*◌, ◌<◌, ◌≤◌, ◌≡◌, refl, Bool, List, [], ◌∷◌, ◌++◌, length, get_or, take, drop}
 use Rattle.std.proofs.Common.{sym, ap, ◌∙◌, arith, add-one, append_assoc, length-append, take-suc, take-append-drop}
 use Rattle.std.proofs.lemmas.List.{append-nil}
 use Rattle.basics.specs.Choice.{choice}
-use Rattle.basics.specs.Lists.{up_from, keep, each, All}
+use Rattle.basics.specs.Lists.{keep, each, All}
 use Rattle.basics.proofs.Tests.{by_test}
 
 module _ {ℓ κ} {A : Type ℓ} {B : Type κ} (f : A → List B) where
@@ -37,25 +37,3 @@ module _ {ℓ κ} {A : Type ℓ} {B : Type κ} (f : A → List B) where
   each_front xs i =
       let parts = each_append (take i xs) (drop i xs) in
       omega (arith, ap (λ t. length (each f t)) (take-append-drop i xs), ap length parts, length-append (each f (take i xs)) (each f (drop i xs)))
-
--- the same of the numbers from a on
-module _ {κ} {B : Type κ} (f : ℕ → List B) where
-  pub up_next : (a i : ℕ) → each f (up_from a (i + 1)) ≡ each f (up_from a i) ++ f (a + i)
-  unfolding each up_from
-  up_next a zero = let e : a + 0 ≡ a = omega arith in rw e (append-nil (f a))
-  up_next a (suc i) =
-      let e : suc a + i ≡ a + suc i = omega arith in
-      let rest = ap (λ n. each f (up_from (suc a) n)) (sym (add-one i)) ∙ up_next (suc a) i in
-      ap (λ n. each f (up_from a n)) (add-one (suc i)) ∙ ap (λ t. f a ++ t) (rest ∙ rw e refl)
-      ∙ sym (append_assoc (f a) (each f (up_from (suc a) i)) (f (a + suc i)))
-
-  pub up_front : (a i n : ℕ) → i ≤ n → length (each f (up_from a i)) ≤ length (each f (up_from a n))
-  unfolding each up_from
-  up_front a zero n h = omega arith
-  up_front a (suc i) zero h = absurd (omega arith)
-  up_front a (suc i) (suc n) h = omega (
-    arith,
-    up_front (suc a) i n (omega arith),
-    length-append (f a) (each f (up_from (suc a) i)),
-    length-append (f a) (each f (up_from (suc a) n)),
-  )

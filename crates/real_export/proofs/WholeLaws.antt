@@ -16,10 +16,10 @@ use Rattle.circuit.specs.Gates.{gates_of}
 use Rattle.circuit.specs.Sound.{Sound}
 use Rattle.circuit.specs.declared.Gate.{Gate}
 use Rattle.real.specs.Export.{name_of, gate_line, head_lines, joined, line_text, real_text}
-use Rattle.real_export.specs.Parts.{Put, spaced_name, name_if, names_on, gate_text, head_text}
-use Rattle.real_export.proofs.EachLaws.{each_append, each_keep, each_few}
+use Rattle.real_export.specs.Parts.{Put, spaced_name, names_on, gate_text, head_text}
+use Rattle.real_export.proofs.EachLaws.{each_append, each_few}
 use Rattle.real_export.proofs.PutLaws.{put_then, put_as}
-use Rattle.real_export.proofs.PartLaws.{gate_few, head_few}
+use Rattle.real_export.proofs.PartLaws.{names_on_lem, gate_few, head_few}
 
 -- ---- names
 
@@ -27,10 +27,6 @@ spaced : (js : List ℕ) → each (λ w. ascii " " ++ w) (map name_of js) ≡ ea
 unfolding each spaced_name
 spaced [] = refl
 spaced (j ∷ js) = ap (λ t. spaced_name j ++ t) (spaced js)
-
-names_on_lem : (n w : ℕ) → each spaced_name (lines_on n w) ≡ names_on n w
-unfolding lines_on name_if
-names_on_lem n w = each_keep spaced_name (λ j. eqb (bit w j) 1) (up_from 0 n)
 
 names-all : (n : ℕ) → each spaced_name (up_from 0 n) ≡ names_on n (all_ones n)
 unfolding lines_on

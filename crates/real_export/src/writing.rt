@@ -1,5 +1,5 @@
 // The text of a circuit, put part by part. Each `put` answers where what it puts ends, and stores it where there is room for it:
-// so a text that is put into no bytes is counted.
+// so a text that is put into no bytes is counted. What puts more than a name is inlined, so that counting makes no bytes and tests no room.
 ghost use Rattle.std.specs.Prelude.{◌≡◌, ◌+◌, ◌<◌, ◌≤◌, ◌^◌, [], ◌∷◌, length};
 ghost use Rattle.basics.specs.Lists.{each};
 ghost use Rattle.text.specs.Decimal.{decimal};
@@ -58,32 +58,36 @@ fn put_name(out: &mut [u8], at: usize, line: u32) -> usize
 }
 
 // The names of the lines that are 1 in a word, rising.
-fn put_names(out: &mut [u8], at: usize, lines: u32, word: u32) -> usize
-    requires { (lines ≤ most_lines) × (at + length (names_on lines word) < 2 ^ 63) }
-    ensures { Put out.old at (names_on lines word) out.new result }
+#[inline(always)]
+fn put_names(out: &mut [u8], at: usize, word: u32) -> usize
+    requires { at + length (names_on most_lines word) < 2 ^ 63 }
+    ensures { Put out.old at (names_on most_lines word) out.new result }
 {
     let mut end = at;
-    for line in 0..lines {
-        if words::checked::value(word, line) == 1 {
-            end = put_name(out, end, line);
-        }
+    let mut left = word;
+    for _ in 0..words::ones(word) {
+        let line = words::checked::lowest(left);
+        end = put_name(out, end, line);
+        left = words::checked::flip(left, line);
     }
     end
 }
 
 // The line of a gate.
+#[inline(always)]
 fn put_gate(out: &mut [u8], at: usize, own: OwnGate) -> usize
     requires { at + length (gate_text own.lines own.gate) < 2 ^ 63 }
     ensures { Put out.old at (gate_text own.lines own.gate) out.new result }
 {
     let number = put_byte(out, at, b't');
     let names = put_number(out, number, words::ones(own.gate.controls) + 1);
-    let target = put_names(out, names, own.lines, own.gate.controls);
+    let target = put_names(out, names, own.gate.controls);
     let last = put_name(out, target, own.gate.target);
     put_byte(out, last, b'\n')
 }
 
 // The lines of all gates.
+#[inline(always)]
 fn put_gates(out: &mut [u8], at: usize, circuit: &Circuit) -> usize
     requires { at + length (each (gate_text circuit.now.lines) (gates_in circuit.now)) < 2 ^ 63 }
     ensures { Put out.old at (each (gate_text circuit.now.lines) (gates_in circuit.now)) out.new result }
@@ -96,6 +100,7 @@ fn put_gates(out: &mut [u8], at: usize, circuit: &Circuit) -> usize
 }
 
 // The lines before the gates.
+#[inline(always)]
 fn put_head(out: &mut [u8], lines: u32) -> usize
     requires { lines ≤ most_lines }
     ensures { Put out.old 0 (head_text lines) out.new result }
@@ -103,11 +108,12 @@ fn put_head(out: &mut [u8], lines: u32) -> usize
     let number = put(out, 0, b".version 1.0\n.numvars ");
     let variables = put_number(out, number, lines);
     let names = put(out, variables, b"\n.variables");
-    let begin = put_names(out, names, lines, words::checked::all_ones(lines));
+    let begin = put_names(out, names, words::checked::all_ones(lines));
     put(out, begin, b"\n.begin\n")
 }
 
 // The whole text.
+#[inline(always)]
 pub fn put_text(circuit: &Circuit, out: &mut [u8]) -> usize
     ensures { Put out.old 0 (real_text circuit.now.lines circuit.now.gates.now) out.new result }
 {

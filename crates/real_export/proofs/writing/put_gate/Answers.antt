@@ -22,7 +22,7 @@ pub put_names-target-requires : goal.put_names-target-requires
 put_names-target-requires c =
     let own = c.args.own in
     let long = gate_long own.lines own.gate own.fits.1 own.ok c.ones.ensures in
-    (own.fits.1, omega (arith, long, c.put_byte-number.ensures.told, c.put_number-names.ensures.told))
+    omega (arith, long, c.put_byte-number.ensures.told, c.put_number-names.ensures.told)
 
 pub put_name-last-requires : goal.put_name-last-requires
 put_name-last-requires c =
