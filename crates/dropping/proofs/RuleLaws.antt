@@ -2,8 +2,7 @@
 use Rattle.std.specs.Prelude.{ℕ, ◌+◌, ◌*◌, ◌%◌, ◌≡◌, refl, Bool, true, false, not, Result, Ok, Err, List, [], ◌∷◌, ◌++◌, length, eqb}
 use Rattle.std.proofs.Common.{sym, ap, ◌∙◌, arith}
 use Rattle.std.specs.Result.{is_err}
-use Rattle.std.proofs.lemmas.Bool.{eqb-true, ne_eqb, not-false}
-use Rattle.basics.specs.Choice.{choice}
+use Rattle.std.proofs.lemmas.Bool.{eqb-true, not-false}
 use Rattle.basics.proofs.All.{all_map}
 use Rattle.refusals.specs.Tables.{Row, Told, first_of, after}
 use Rattle.refusals.specs.Tables.Row.{refuse◌at◌when◌}

@@ -13,7 +13,7 @@ use Rattle.basics.specs.Choice.{choice}
 use Rattle.basics.specs.Lists.{All}
 use borrow.Author.Tests.{ne_eqb}
 use mathlib.Core.Bool.{not}
-use Rattle.std.specs.Prelude.{Option, Some, None}
+use Rattle.std.specs.Prelude.{Some, None}
 use lib.Dec.{eqb}
 use Rattle.refusals.specs.Places.{first_bad_from, in_word, some_place}
 use Rattle.refusals.specs.Tables.{Told}

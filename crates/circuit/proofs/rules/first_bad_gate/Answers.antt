@@ -30,7 +30,7 @@ pub returns-then-gates-ne0 : goal.returns-then-gates-ne0
 returns-then-gates-ne0 c =
     let a = c.args in
     let last : c.loop-i.i ≡ length a.gates.now / 3 = omega arith in
-    some_at _ _ (c.loop-i.invariant ∙ bad_end (bad_gate a.lines) (not (eqb (length a.gates.now % 3) 0)) (gates_of a.gates.now) c.loop-i.i
+    some_at _ (length a.gates.now / 3) (c.loop-i.invariant ∙ bad_end (bad_gate a.lines) (not (eqb (length a.gates.now % 3) 0)) (gates_of a.gates.now) c.loop-i.i
     (omega (arith, gates_count a.gates.now)) ∙ rw (ne_eqb (length a.gates.now % 3) 0 c.if-gates-ne0.true, last))
 
 pub returns-else-gates-ne0 : goal.returns-else-gates-ne0

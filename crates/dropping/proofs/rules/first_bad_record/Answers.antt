@@ -39,7 +39,7 @@ returns-then-is_over g c =
     let over = g.E.Entry.is_over c.args.list.now in
     let fs = g.E.Entry.records c.args.list.now in
     let last : c.loop-i.i ≡ c.count-whole.result = omega arith in
-    some_at _ _ (c.loop-i.invariant ∙ bad_end bad over fs c.loop-i.i (omega arith)
+    some_at _ c.count-whole.result (c.loop-i.invariant ∙ bad_end bad over fs c.loop-i.i (omega arith)
     ∙ choice-true (sym c.is_over.ensures ∙ c.if-is_over.true) _ _ ∙ rw last)
 
 pub returns-else-is_over : goal.returns-else-is_over
