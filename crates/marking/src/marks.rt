@@ -40,13 +40,15 @@ impl LevelMarks {
     pub fn mark(&mut self, circuit: &Circuit, vector: u32)
         ensures { self.new ≡ with_levels self.old circuit.now.lines (gates_in circuit.now) vector }
     {
+        // By value: behind the reference its fields would be loaded again in each turn, after the writes of the last.
+        let circuit = *circuit;
         let mut state = vector;
         for i in 0..circuit.depth() {
             let level = numbers::level(i);
-            self.mark_level(circuit, level, state);
+            self.mark_level(&circuit, level, state);
             state = step(circuit.gate(numbers::gate_after(level)), state);
         }
-        self.mark_level(circuit, numbers::level(circuit.depth()), state);
+        self.mark_level(&circuit, numbers::level(circuit.depth()), state);
     }
 
     // One level: a line stuck at 0 is caught where it is 1, and one stuck at 1 where it is 0.
@@ -91,6 +93,8 @@ pub fn mark_gates(class: GateClass, marks: &mut [u32; MOST_GATES], circuit: &Cir
     ensures { marks.new ≡ marked marks.old
         (gate_marks circuit.now.lines (gates_in circuit.now) (gate_class_number class) vector) }
 {
+    // As in `LevelMarks::mark`.
+    let circuit = *circuit;
     let mut state = vector;
     for i in 0..circuit.depth() {
         let own = circuit.own_gate(numbers::gate_after(numbers::level(i)));
