@@ -2,3 +2,4 @@ pub mod PlainLaws
 pub mod DropLaws
 pub mod RuleLaws
 pub mod SameLaws
+pub mod Faults
