@@ -199,6 +199,16 @@ static void ask_text(void)
     PUT(".end");
 }
 
+/* A name more than a circuit may have lines: such names are compared one by one. */
+static void ask_more_names(void)
+{
+    in.text_len = 0;
+    PUT(".version 2.0\n.numvars 33\n.variables");
+    for (uint32_t line = 0; line < 33; line++)
+        PUT(" Name_%03u", line);
+    PUT("\n.begin\nt2 Name_031 Name_032\n.end\n");
+}
+
 /* Asks all that can be asked about the circuit, and about the last fault of the class. */
 static void ask(uint32_t class_)
 {
@@ -251,6 +261,8 @@ int main(void)
     measure();
     set_circuit(12, GATES, 0x5A5, 1);
     ask(1);
+    measure();
+    ask_more_names();
     measure();
     for (int way = 0; way < WAYS; way++) {
         set_circuit(31, 20, 0x12345678, 7);
