@@ -98,7 +98,9 @@ pub fn mark_gates(class: GateClass, marks: &mut [u32; MOST_GATES], circuit: &Cir
     let mut state = vector;
     for i in 0..circuit.depth() {
         let own = circuit.own_gate(numbers::gate_after(numbers::level(i)));
+        // First, so that whether the gate fires is worked out once for every class.
+        let after = step(own.gate, state);
         marks[i] |= caught_at_gate(class, own, state);
-        state = step(own.gate, state);
+        state = after;
     }
 }

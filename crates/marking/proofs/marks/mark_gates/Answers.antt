@@ -12,8 +12,8 @@ loop-i-init c =
     let circuit = c.args.circuit.now in
     gates_start circuit.lines circuit.gates.now (gate_class_number c.args.class) c.args.vector c.args.marks.now
 
-pub step-state-requires : goal.step-state-requires
-step-state-requires c =
+pub step-after-requires : goal.step-after-requires
+step-after-requires c =
     let circuit = c.args.circuit.now in
     rw c.own_gate-own.ensures.1 (target_fits circuit.lines circuit.gates.now _ circuit.sound (omega arith) (omega arith))
 
@@ -24,7 +24,7 @@ loop-i-preserved c =
     let caught = c.caught_at_gate.ensures
     ∙ ap (λ n. caught_at_gate (gate_class_number c.args.class) n own.gate c.loop-i.state) c.own_gate-own.ensures.0 in
     gates-turn circuit.lines circuit.gates.now circuit.sound c.args.vector c.args.marks.now c.loop-i.marks c.loop-i.state c.loop-i.i
-    c.args.class c.loop-i.invariant (omega arith) _ _ _ _ c.step-state.ensures c.own_gate-own.ensures.1 (omega arith) caught
+    c.args.class c.loop-i.invariant (omega arith) _ _ _ _ c.step-after.ensures c.own_gate-own.ensures.1 (omega arith) caught
 
 pub returns : goal.returns
 returns c =
